@@ -1,0 +1,43 @@
+//! What a source and a sink of bytes are.
+//!
+//! A device may tell contracts its contents, or not: a clause on contents holds where they are told.
+//! It counts its faults, and a call is refused only where that count rose.
+
+ghost use Rattle.std.specs.Prelude.{ℕ, Option, List, ◌<◌, ◌≤◌, ◌≡◌, length};
+ghost use Rattle.dev_traits.specs.Faults.{HasCause};
+ghost use Rattle.dev_traits.specs.Contents.{TakesFront, GivesAtMost, PutsPiece};
+
+/// A device refused a call.
+#[derive(Clone, Copy, Debug, PartialEq, Eq)]
+pub struct Failed;
+
+/// Where bytes come from.
+pub trait ByteSource {
+    /// The bytes still to come, where the source tells them.
+    ghost rest: { Self → Option (List ℕ) };
+
+    /// The faults so far. The count never falls, and stands at 2^64 - 1 once it is there.
+    ghost faults: { Self → ℕ };
+
+    /// Reads the next bytes into the front of `into`, and answers how many: at most its length, and
+    /// 0 only where no byte is left. A refused call leaves the bytes to come as they were.
+    fn read(&mut self, into: &mut [u8]) -> Result<usize, Failed>
+        requires { 0 < length into.old }
+        ensures bound { GivesAtMost (length into.old) result }
+        ensures bytes { TakesFront (rest self.old) (rest self.new) into.new result }
+        ensures cause { HasCause (faults self.old) (faults self.new) result };
+}
+
+/// Where bytes go to.
+pub trait ByteSink {
+    /// The bytes written, where the sink tells them.
+    ghost written: { Self → Option (List ℕ) };
+
+    /// The faults so far. The count never falls, and stands at 2^64 - 1 once it is there.
+    ghost faults: { Self → ℕ };
+
+    /// Writes the whole piece at the end. A refused call has written some front of it.
+    fn put(&mut self, piece: &[u8]) -> Result<(), Failed>
+        ensures bytes { PutsPiece (written self.old) (written self.new) piece.now result }
+        ensures cause { HasCause (faults self.old) (faults self.new) result };
+}

@@ -1,0 +1,2 @@
+pub mod GridShape
+pub mod GridLimits

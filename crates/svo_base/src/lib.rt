@@ -1,0 +1,13 @@
+//! The types that every layer speaks of: points, triangles and cubes of whole numbers, the grid,
+//! the words of a command line, and a counter of steps that costs nothing.
+#![tactic(auto)]
+
+mod counting;
+mod grids;
+mod shapes;
+mod texts;
+
+pub use counting::Steps;
+pub use grids::{Grid, GridFault, MAX_DEPTH};
+pub use shapes::{Cube, Point, Triangle, Vector};
+pub use texts::Words;
