@@ -1,4 +1,5 @@
 pub mod Faults
+pub mod Change
 pub mod Contents
 pub mod SourceView
 pub mod SinkView

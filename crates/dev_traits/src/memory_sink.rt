@@ -3,7 +3,7 @@
 ghost use Rattle.std.specs.Prelude.{◌≡◌, Some, [], IfOk};
 ghost use Rattle.dev_traits.specs.Contents.{PutsPiece};
 ghost use Rattle.dev_traits.specs.Faults.{HasCause};
-ghost use Rattle.dev_traits.specs.SinkView.{taken_of};
+ghost use Rattle.dev_traits.specs.SinkView.{planned, taken_of};
 
 use crate::device::{ByteSink, Failed};
 use std::alloc::{AllocError, Global};
@@ -91,17 +91,23 @@ impl ByteSink for MemSink {
         ensures exact { PutsAsSet self.old self.new piece.now result }
     {
         self.calls = self.calls.saturating_add(1);
-        let call = self.calls;
-        let planned = self.fails.iter().copied().find(|fail| fail.call == call);
+        let planned = planned(self.fails.as_slice(), self.calls);
         let fits = piece.len().min(self.room - self.bytes.len());
         let taken = taken(planned, fits);
         self.bytes.extend_from_slice(&piece[..taken]).unwrap();
-        if planned.is_some() || fits < piece.len() {
-            self.faults = self.faults.saturating_add(1);
-            return Err(Failed);
+        if planned.is_none() && fits == piece.len() {
+            return Ok(());
         }
-        Ok(())
+        self.faults = self.faults.saturating_add(1);
+        Err(Failed)
     }
+}
+
+/// The first entry for a call.
+fn planned(fails: &[PartFail], call: u64) -> Option<PartFail>
+    ensures { result ≡ planned fails.now call }
+{
+    fails.iter().copied().find(|fail| fail.call == call)
 }
 
 /// How many bytes a call takes, of those for which there is room.

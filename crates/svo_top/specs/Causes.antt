@@ -1,0 +1,40 @@
+-- Why a run stops before its work is done, and what it then leaves as it was.
+use Rattle.std.specs.Prelude.{◌≡◌, ◌≢◌, List, ℕ, Some, Ok, Err}
+use Rattle.dev_traits.specs.Change.{Change, IsFaulted, IsKept}
+use Rattle.svo_top.specs.Form.{form_of}
+use Rattle.svo_top.specs.Ranges.{range_of}
+use Rattle.svo_top.specs.Lines.{Says, stop_line}
+use Rattle.svo_top.specs.declared.form.Command.{Command}
+use Rattle.svo_top.specs.declared.outcome.Status.{Status}
+use Rattle.svo_top.specs.declared.outcome.Status.TheVariants.{Done, Usage, Range, Device}
+use Rattle.svo_top.specs.declared.outcome.UsageKind.{UsageKind}
+use Rattle.svo_top.specs.declared.outcome.RangeFault.{RangeFault}
+use Rattle.svo_top.specs.declared.outcome.Device.{Device as DeviceName}
+use Rattle.svo_top.specs.declared.outcome.Device.TheVariants.{Write}
+
+-- a usage fault comes exactly where the words are not in the form, and is theirs
+pub record UsageCauses (words : List (List ℕ)) (status : Status) : Type 0 where
+  pub comes : (kind : UsageKind) → form_of words ≡ Err kind → status ≡ Usage kind
+  pub only : (kind : UsageKind) → status ≡ Usage kind → form_of words ≡ Err kind
+
+-- a range fault comes exactly where a number of the command is out of a range, and is the first
+pub record RangeCauses (words : List (List ℕ)) (status : Status) : Type 0 where
+  pub comes : (command : Command) (fault : RangeFault) → form_of words ≡ Ok command → range_of command ≡ Some fault → status ≡ Range fault
+  pub only : (fault : RangeFault) → status ≡ Range fault → (command : Command) × (form_of words ≡ Ok command) × (range_of command ≡ Some fault)
+
+-- a device is named only where its count of faults rose in this run
+abbrev pub DeviceCause : DeviceName → Change → Status → Type 0
+DeviceCause device change status = status ≡ Device device → IsFaulted change
+
+-- nothing is put out but by a run that is done or whose output failed
+abbrev pub KeepsOutput : Change → Status → Type 0
+KeepsOutput out status = status ≢ Done → status ≢ Device Write → IsKept out
+
+-- nothing is read before the words and their ranges are in order
+pub record KeepsInput (input : Change) (status : Status) : Type 0 where
+  pub usage : (kind : UsageKind) → status ≡ Usage kind → IsKept input
+  pub range : (fault : RangeFault) → status ≡ Range fault → IsKept input
+
+-- a run that stops says why, in one line
+abbrev pub SaysWhy : Change → Status → Type 0
+SaysWhy err status = status ≢ Done → Says err (stop_line status)

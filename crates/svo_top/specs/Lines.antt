@@ -1,0 +1,56 @@
+-- The lines on the error output, and how a line is put there.
+use Rattle.std.specs.Prelude.{ℕ, List, [], ◌++◌, take, codes}
+use Rattle.std.specs.Fmt.{decimal}
+use Rattle.dev_traits.specs.Change.{Change, IsFaultless, Grew}
+use Rattle.svo_base.specs.declared.grids.GridFault.{GridFault}
+use Rattle.svo_base.specs.declared.grids.GridFault.TheVariants.{Depth, Origin, Cell, TooWide}
+use Rattle.svo_top.specs.declared.outcome.Status.{Status}
+use Rattle.svo_top.specs.declared.outcome.Status.TheVariants.{Done, Usage, Input, Range, Device, Memory}
+use Rattle.svo_top.specs.declared.outcome.UsageKind.{UsageKind}
+use Rattle.svo_top.specs.declared.outcome.UsageKind.TheVariants.{Command, Options, Value}
+use Rattle.svo_top.specs.declared.outcome.InputKind.{InputKind}
+use Rattle.svo_top.specs.declared.outcome.InputKind.TheVariants.{NotPlain}
+use Rattle.svo_top.specs.declared.outcome.RangeFault.{RangeFault}
+use Rattle.svo_top.specs.declared.outcome.RangeFault.TheVariants.{Grid}
+use Rattle.svo_top.specs.declared.outcome.Device.{Device as DeviceName}
+use Rattle.svo_top.specs.declared.outcome.Device.TheVariants.{Read, Write}
+
+abbrev pub usage_word : UsageKind → List ℕ
+usage_word Command = codes "command"
+usage_word Options = codes "options"
+usage_word Value = codes "value"
+
+abbrev pub input_word : InputKind → List ℕ
+input_word NotPlain = codes "NotPlain"
+
+abbrev pub grid_word : GridFault → List ℕ
+grid_word Depth = codes "depth"
+grid_word Origin = codes "origin"
+grid_word Cell = codes "cell"
+grid_word TooWide = codes "wide"
+
+abbrev pub range_word : RangeFault → List ℕ
+range_word (Grid fault) = grid_word fault
+
+abbrev pub device_word : DeviceName → List ℕ
+device_word Read = codes "read"
+device_word Write = codes "write"
+
+-- the line of a run that stopped; a run that is done has a line of its command's own, or none
+unfoldable pub stop_line : Status → List ℕ
+stop_line Done = []
+stop_line (Usage kind) = codes "usage: " ++ usage_word kind ++ codes "\n"
+stop_line (Input kind place) = codes "input: " ++ input_word kind ++ codes " at " ++ decimal place ++ codes "\n"
+stop_line (Range fault) = codes "range: " ++ range_word fault ++ codes "\n"
+stop_line (Device device) = codes "device: " ++ device_word device ++ codes "\n"
+stop_line Memory = codes "memory\n"
+
+-- the line of a finished build
+unfoldable pub built_line : ℕ → ℕ → ℕ → List ℕ
+built_line cells records parts =
+    codes "built cells " ++ decimal cells ++ codes " records " ++ decimal records ++ codes " parts " ++ decimal parts ++ codes "\n"
+
+-- the line was put out, and some front of it where the device failed
+pub record Says (err : Change) (line : List ℕ) : Type 0 where
+  pub whole : IsFaultless err → Grew err line
+  pub front : (n : ℕ) × Grew err (take n line)

@@ -1,0 +1,73 @@
+//! How a run ends.
+
+ghost use Rattle.std.specs.Prelude.{◌≡◌};
+ghost use Rattle.svo_top.specs.Codes.{code_of_status};
+
+use svo_base::GridFault;
+
+/// How a run ended.
+#[derive(Clone, Copy, Debug, PartialEq, Eq)]
+pub enum Status {
+    /// All was read that the command reads, and all was written.
+    Done,
+    /// The words are no command line of this program.
+    Usage(UsageKind),
+    /// The input was refused, at the byte of this number.
+    Input { kind: InputKind, place: u64 },
+    /// A number among the words is out of its range.
+    Range(RangeFault),
+    /// A device failed.
+    Device(Device),
+    /// There was not enough memory.
+    Memory,
+}
+
+/// What is wrong with the words.
+#[derive(Clone, Copy, Debug, PartialEq, Eq)]
+pub enum UsageKind {
+    /// There is no first word, or it names no command.
+    Command,
+    /// The words after it are not in the command's form.
+    Options,
+    /// They are, and a value's text is not of its kind.
+    Value,
+}
+
+/// What is wrong with the input.
+#[derive(Clone, Copy, Debug, PartialEq, Eq)]
+pub enum InputKind {
+    /// The text is not a mesh in the plain form.
+    NotPlain,
+}
+
+/// Which range a number is out of.
+#[derive(Clone, Copy, Debug, PartialEq, Eq)]
+pub enum RangeFault {
+    /// A limit of the grid.
+    Grid(GridFault),
+}
+
+/// Which device failed.
+#[derive(Clone, Copy, Debug, PartialEq, Eq)]
+pub enum Device {
+    /// The input.
+    Read,
+    /// The output.
+    Write,
+}
+
+impl Status {
+    /// The exit status of the process: 0, or 2 to 7 for the cause.
+    pub fn code(&self) -> u8
+        ensures { result ≡ code_of_status self.now }
+    {
+        match self {
+            Status::Done => 0,
+            Status::Usage(_) => 2,
+            Status::Input { .. } => 3,
+            Status::Range(_) => 4,
+            Status::Device(_) => 5,
+            Status::Memory => 7,
+        }
+    }
+}

@@ -1,0 +1,179 @@
+//! The line on the error output.
+
+ghost use Rattle.std.specs.Prelude.{◌≡◌, ◌≤◌, ◌+◌, ◌++◌, length, codes, decimal};
+ghost use Rattle.arrayvec.specs.ArrayString.{array_string_len};
+ghost use Rattle.dev_traits.specs.Change.{change_of};
+ghost use Rattle.svo_top.specs.Lines.{usage_word, input_word, grid_word, range_word, device_word, stop_line, built_line, Says};
+ghost use Rattle.svo_top.specs.Endings.{line_of, status_of};
+
+use crate::outcome::{Device, InputKind, RangeFault, Status, UsageKind};
+use arrayvec::ArrayString;
+use dev_traits::ByteSink;
+use itoa::Buffer;
+use svo_base::GridFault;
+
+/// A line; the longest has 89 bytes.
+type Line = ArrayString<96>;
+
+/// What the line of a finished build counts.
+#[derive(Clone, Copy, Debug, PartialEq, Eq)]
+pub struct Counts {
+    pub cells: u64,
+    pub records: u64,
+    pub parts: u64,
+}
+
+/// How a command ended, with what its line says.
+#[derive(Clone, Copy, Debug, PartialEq, Eq)]
+pub enum Ending {
+    /// A build is done.
+    Built(Counts),
+    /// The command stopped.
+    Stopped(Status),
+}
+
+impl Ending {
+    /// The status of a run that ends so.
+    pub fn status(&self) -> Status
+        ensures { result ≡ status_of self.now }
+    {
+        match self {
+            Ending::Built(_) => Status::Done,
+            Ending::Stopped(status) => *status,
+        }
+    }
+}
+
+/// Puts out the line of an ending. A fault of the device changes nothing else.
+pub fn report<E: ByteSink>(ending: &Ending, err: &mut E)
+    ensures { Says (change_of E.written E.faults err.old err.new) (line_of ending.now) }
+{
+    let line = line_of(ending);
+    let _ = err.put(line.as_str().as_bytes());
+}
+
+/// The line of an ending.
+fn line_of(ending: &Ending) -> Line
+    ensures { result.bytes ≡ line_of ending.now }
+{
+    match ending {
+        Ending::Built(counts) => built_line(counts),
+        Ending::Stopped(status) => stop_line(status),
+    }
+}
+
+#[tactic(auto, unfolding(crate::specs::Lines::built_line))]
+fn built_line(counts: &Counts) -> Line
+    ensures { result.bytes ≡ built_line counts.now.cells counts.now.records counts.now.parts }
+{
+    let mut line = Line::new();
+    line.push_str("built cells ");
+    push_number(&mut line, counts.cells);
+    line.push_str(" records ");
+    push_number(&mut line, counts.records);
+    line.push_str(" parts ");
+    push_number(&mut line, counts.parts);
+    line.push_str("\n");
+    line
+}
+
+#[tactic(auto, unfolding(crate::specs::Lines::stop_line))]
+fn stop_line(status: &Status) -> Line
+    ensures { result.bytes ≡ stop_line status.now }
+{
+    match status {
+        Status::Done => Line::new(),
+        Status::Usage(kind) => worded_line("usage: ", usage_word(*kind)),
+        Status::Input { kind, place } => placed_line(input_word(*kind), *place),
+        Status::Range(fault) => worded_line("range: ", range_word(*fault)),
+        Status::Device(device) => worded_line("device: ", device_word(*device)),
+        Status::Memory => worded_line("memory", ""),
+    }
+}
+
+/// Two texts and the end of the line.
+fn worded_line(front: &str, word: &str) -> Line
+    requires { length front.now + length word.now ≤ 95 }
+    ensures { result.bytes ≡ front.now ++ word.now ++ codes "\n" }
+{
+    let mut line = Line::new();
+    line.push_str(front);
+    line.push_str(word);
+    line.push_str("\n");
+    line
+}
+
+/// The line of an input that was refused at a place.
+fn placed_line(word: &str, place: u64) -> Line
+    requires { length word.now ≤ 32 }
+    ensures { result.bytes ≡ codes "input: " ++ word.now ++ codes " at " ++ decimal place ++ codes "\n" }
+{
+    let mut line = Line::new();
+    line.push_str("input: ");
+    line.push_str(word);
+    line.push_str(" at ");
+    push_number(&mut line, place);
+    line.push_str("\n");
+    line
+}
+
+/// Adds a number in digits.
+fn push_number(line: &mut Line, number: u64)
+    requires { array_string_len line.old + 20 ≤ 96 }
+    ensures text { line.new.bytes ≡ line.old.bytes ++ decimal number }
+    ensures length { array_string_len line.new ≤ array_string_len line.old + 20 }
+{
+    let mut buffer = Buffer::new();
+    line.push_str(buffer.format(number));
+}
+
+fn usage_word(kind: UsageKind) -> &'static str
+    ensures word { result.now ≡ usage_word kind }
+    ensures short { length result.now ≤ 32 }
+{
+    match kind {
+        UsageKind::Command => "command",
+        UsageKind::Options => "options",
+        UsageKind::Value => "value",
+    }
+}
+
+fn input_word(kind: InputKind) -> &'static str
+    ensures word { result.now ≡ input_word kind }
+    ensures short { length result.now ≤ 32 }
+{
+    match kind {
+        InputKind::NotPlain => "NotPlain",
+    }
+}
+
+fn range_word(fault: RangeFault) -> &'static str
+    ensures word { result.now ≡ range_word fault }
+    ensures short { length result.now ≤ 32 }
+{
+    match fault {
+        RangeFault::Grid(fault) => grid_word(fault),
+    }
+}
+
+fn grid_word(fault: GridFault) -> &'static str
+    ensures word { result.now ≡ grid_word fault }
+    ensures short { length result.now ≤ 32 }
+{
+    match fault {
+        GridFault::Depth => "depth",
+        GridFault::Origin => "origin",
+        GridFault::Cell => "cell",
+        GridFault::TooWide => "wide",
+    }
+}
+
+fn device_word(device: Device) -> &'static str
+    ensures word { result.now ≡ device_word device }
+    ensures short { length result.now ≤ 32 }
+{
+    match device {
+        Device::Read => "read",
+        Device::Write => "write",
+    }
+}
