@@ -1,5 +1,5 @@
 -- What the three unit rows ask of weights.
-use Rattle.std.proofs.Common.{◌≡◌, arith, ℤ, pos, ◌+ℤ◌, ◌*ℤ◌}
+use Rattle.std.proofs.Common.{◌≡◌, arith, pos}
 use Rattle.std.proofs.lemmas.Int.{ints}
 use Rattle.svo_base.specs.declared.shapes.Vector.{Vector}
 use Rattle.octree_specs.specs.Vectors.{vector, dot_of}

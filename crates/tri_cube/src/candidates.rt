@@ -8,13 +8,13 @@ ghost use Rattle.octree_specs.specs.Meeting.{candidates_of, candidates_with, is_
 ghost use Rattle.tri_cube.specs.Pairs.{has_good_pair};
 ghost use Rattle.tri_cube.specs.Sides.{unit_rows};
 
+use crate::narrow::NarrowVector;
 use crate::products::{cross, dot, opposite};
-use crate::rows::Row;
 use svo_base::Vector;
 
 /// Whether a candidate that is made of two of these rows is good.
 #[tactic(auto, using(crate::proofs::Joined::joined))]
-pub fn has_good(rows: &[Row], sides: &[Row]) -> bool
+pub fn has_good(rows: &[NarrowVector], sides: &[NarrowVector]) -> bool
     ensures { result ≡ list_any (is_good (unit_rows ++ sides.now)) (candidates_of rows.now) }
 {
     match rows.split_first() {
@@ -24,7 +24,7 @@ pub fn has_good(rows: &[Row], sides: &[Row]) -> bool
 }
 
 /// Whether a candidate that is made of a row and one of these later rows is good.
-fn has_good_with(row: &Row, later: &[Row], sides: &[Row]) -> bool
+fn has_good_with(row: &NarrowVector, later: &[NarrowVector], sides: &[NarrowVector]) -> bool
     ensures { result ≡ list_any (has_good_pair sides.now row.now) later.now }
 {
     later.iter().any(|other| has_good_of(row, other, sides))
@@ -32,7 +32,7 @@ fn has_good_with(row: &Row, later: &[Row], sides: &[Row]) -> bool
 
 /// Whether one of the two candidates that are made of two rows is good.
 #[tactic(auto, unfolding(crate::specs::Pairs::has_good_pair))]
-fn has_good_of(a: &Row, b: &Row, sides: &[Row]) -> bool
+fn has_good_of(a: &NarrowVector, b: &NarrowVector, sides: &[NarrowVector]) -> bool
     ensures { result ≡ has_good_pair sides.now a.now b.now }
 {
     let direction = cross(a, b);
@@ -40,7 +40,7 @@ fn has_good_of(a: &Row, b: &Row, sides: &[Row]) -> bool
 }
 
 /// Whether weights are not all zero, none of them is negative, and they clear all sides.
-fn is_good_direction(weights: &Vector, sides: &[Row]) -> bool
+fn is_good_direction(weights: &Vector, sides: &[NarrowVector]) -> bool
     requires { IsWithin (2 ^ 69) weights.now }
     ensures { result ≡ is_good (unit_rows ++ sides.now) weights.now }
 {
@@ -69,7 +69,7 @@ fn is_zero(weights: &Vector) -> bool
 }
 
 /// Whether weights clear all sides.
-fn clears(weights: &Vector, sides: &[Row]) -> bool
+fn clears(weights: &Vector, sides: &[NarrowVector]) -> bool
     requires { IsWithin (2 ^ 69) weights.now }
     ensures { result ≡ list_all (λ row. int_le (pos 0) (dot_of weights.now row)) sides.now }
 {

@@ -5,7 +5,9 @@
 
 mod candidates;
 mod meeting;
+mod narrow;
 mod products;
 mod rows;
+mod separation;
 
 pub use meeting::overlaps;

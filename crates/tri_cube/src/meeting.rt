@@ -5,6 +5,7 @@ ghost use Rattle.octree_specs.specs.Meeting.{HasPlanes, has_good_candidate};
 
 use crate::candidates::has_good;
 use crate::rows::{sides, with_units};
+use crate::separation::are_apart;
 use std::sync::ledger::Ledger;
 use svo_base::{Cube, Steps, Triangle};
 
@@ -26,5 +27,8 @@ fn share_point(triangle: &Triangle, cube: &Cube) -> bool
     ensures { result ≡ has_good_candidate triangle.now cube.now }
 {
     let sides = sides(triangle, cube);
+    if are_apart(triangle, &sides) {
+        return false;
+    }
     has_good(&with_units(&sides), &sides)
 }

@@ -3,11 +3,11 @@
 ghost use Rattle.std.specs.Prelude.{◌≡◌, ◌*◌, ◌^◌, ◌≤◌, ◌<◌, ◌+ℤ◌, ◌-ℤ◌, ◌*ℤ◌, unsigned_abs};
 ghost use Rattle.octree_specs.specs.Vectors.{IsWithin, cross_of, dot_of, opposite_of};
 
-use crate::rows::Row;
+use crate::narrow::NarrowVector;
 use svo_base::Vector;
 
 /// The cross product of two rows.
-pub fn cross(a: &Row, b: &Row) -> Vector
+pub fn cross(a: &NarrowVector, b: &NarrowVector) -> Vector
     ensures value { result ≡ cross_of a.now b.now }
     ensures within { IsWithin (2 ^ 69) result }
 {
@@ -31,7 +31,7 @@ fn minor(a: i64, b: i64, c: i64, d: i64) -> i128
 }
 
 /// The product of a direction and a row.
-pub fn dot(direction: &Vector, row: &Row) -> i128
+pub fn dot(direction: &Vector, row: &NarrowVector) -> i128
     requires { IsWithin (2 ^ 69) direction.now }
     ensures { result ≡ dot_of direction.now row.now }
 {
@@ -39,7 +39,7 @@ pub fn dot(direction: &Vector, row: &Row) -> i128
 }
 
 /// The part of the product that is of x and y.
-fn dot_xy(direction: &Vector, row: &Row) -> i128
+fn dot_xy(direction: &Vector, row: &NarrowVector) -> i128
     requires { IsWithin (2 ^ 69) direction.now }
     ensures value { result ≡ (direction.now.x *ℤ row.now.x) +ℤ (direction.now.y *ℤ row.now.y) }
     ensures within { unsigned_abs result ≤ 2 ^ 104 }

@@ -1,70 +1,23 @@
-//! The rows: what the weights of a triangle's corners must clear to name a point of a cube.
+//! The rows of a triangle and a cube, with a number for each corner of the triangle. Weights of the
+//! corners clear a row where their product with it is not negative, and they name a point of the
+//! cube where they clear all rows.
 
 ghost use Rattle.std.specs.Prelude.{◌≡◌, ◌++◌, ◌^◌, ◌≤◌, ◌-ℤ◌, pos, unsigned_abs};
 ghost use Rattle.octree_specs.specs.Vectors.{vector};
 ghost use Rattle.octree_specs.specs.Meeting.{HasPlanes, above_plane, below_plane, low_of, high_of};
 ghost use Rattle.tri_cube.specs.Sides.{unit_rows, sides_of};
 
-use std::marker::Model;
+use crate::narrow::NarrowVector;
 use svo_base::{Cube, Triangle};
 
-/// A number for each corner of a triangle, of a size of at most 2^34. Weights of the corners clear
-/// a row where their product with it is not negative.
-#[derive(Clone, Copy)]
-pub struct Row {
-    x: i64,
-    y: i64,
-    z: i64,
-}
-
-impl Model for Row {
-    ghost use Rattle.std.specs.Prelude.{◌^◌};
-    ghost use Rattle.svo_base.specs.declared.shapes.Vector.{Vector};
-    ghost use Rattle.octree_specs.specs.Vectors.{vector, IsWithin};
-
-    ghost Value = { Vector };
-
-    ghost view = { λ r. vector r.x r.y r.z };
-
-    ghost invariant = { λ r. IsWithin (2 ^ 34) (vector r.x r.y r.z) };
-
-    ghost inverse = { λ v. record { x = v.x; y = v.y; z = v.z } };
-}
-
-impl Row {
-    /// The first corner's number.
-    pub fn x(&self) -> i64
-        ensures value { result ≡ self.now.x }
-        ensures within { unsigned_abs result ≤ 2 ^ 34 }
-    {
-        self.x
-    }
-
-    /// The second corner's number.
-    pub fn y(&self) -> i64
-        ensures value { result ≡ self.now.y }
-        ensures within { unsigned_abs result ≤ 2 ^ 34 }
-    {
-        self.y
-    }
-
-    /// The third corner's number.
-    pub fn z(&self) -> i64
-        ensures value { result ≡ self.now.z }
-        ensures within { unsigned_abs result ≤ 2 ^ 34 }
-    {
-        self.z
-    }
-}
-
 /// The rows that weights clear where none of them is negative, and then these sides.
-pub fn with_units(sides: &[Row; 6]) -> [Row; 9]
+pub fn with_units(sides: &[NarrowVector; 6]) -> [NarrowVector; 9]
     ensures { result ≡ unit_rows ++ sides.now }
 {
     [
-        Row { x: 1, y: 0, z: 0 },
-        Row { x: 0, y: 1, z: 0 },
-        Row { x: 0, y: 0, z: 1 },
+        NarrowVector::new(1, 0, 0),
+        NarrowVector::new(0, 1, 0),
+        NarrowVector::new(0, 0, 1),
         sides[0],
         sides[1],
         sides[2],
@@ -76,7 +29,7 @@ pub fn with_units(sides: &[Row; 6]) -> [Row; 9]
 
 /// A row for each plane of the cube, which weights clear where they name a point on its inner side.
 #[tactic(auto, unfolding(crate::specs::Sides::sides_of))]
-pub fn sides(triangle: &Triangle, cube: &Cube) -> [Row; 6]
+pub fn sides(triangle: &Triangle, cube: &Cube) -> [NarrowVector; 6]
     requires { HasPlanes cube.now }
     ensures { result ≡ sides_of triangle.now cube.now }
 {
@@ -91,81 +44,75 @@ pub fn sides(triangle: &Triangle, cube: &Cube) -> [Row; 6]
 }
 
 /// How far the corners are above the lower plane across x.
-fn above_x(triangle: &Triangle, cube: &Cube) -> Row
+fn above_x(triangle: &Triangle, cube: &Cube) -> NarrowVector
     requires { HasPlanes cube.now }
     ensures { result ≡ above_plane (λ p. p.x) triangle.now (low_of cube.now 0) }
 {
     let plane = cube.lo[0];
-    Row {
-        x: height(triangle.a.x, plane),
-        y: height(triangle.b.x, plane),
-        z: height(triangle.c.x, plane),
-    }
+    let a = height(triangle.a.x, plane);
+    let b = height(triangle.b.x, plane);
+    let c = height(triangle.c.x, plane);
+    NarrowVector::new(a, b, c)
 }
 
 /// How far the corners are below the upper plane across x.
-fn below_x(triangle: &Triangle, cube: &Cube) -> Row
+fn below_x(triangle: &Triangle, cube: &Cube) -> NarrowVector
     requires { HasPlanes cube.now }
     ensures { result ≡ below_plane (λ p. p.x) triangle.now (high_of cube.now 0) }
 {
     let plane = cube.hi[0];
-    Row {
-        x: depth(triangle.a.x, plane),
-        y: depth(triangle.b.x, plane),
-        z: depth(triangle.c.x, plane),
-    }
+    let a = depth(triangle.a.x, plane);
+    let b = depth(triangle.b.x, plane);
+    let c = depth(triangle.c.x, plane);
+    NarrowVector::new(a, b, c)
 }
 
 /// How far the corners are above the lower plane across y.
-fn above_y(triangle: &Triangle, cube: &Cube) -> Row
+fn above_y(triangle: &Triangle, cube: &Cube) -> NarrowVector
     requires { HasPlanes cube.now }
     ensures { result ≡ above_plane (λ p. p.y) triangle.now (low_of cube.now 1) }
 {
     let plane = cube.lo[1];
-    Row {
-        x: height(triangle.a.y, plane),
-        y: height(triangle.b.y, plane),
-        z: height(triangle.c.y, plane),
-    }
+    let a = height(triangle.a.y, plane);
+    let b = height(triangle.b.y, plane);
+    let c = height(triangle.c.y, plane);
+    NarrowVector::new(a, b, c)
 }
 
 /// How far the corners are below the upper plane across y.
-fn below_y(triangle: &Triangle, cube: &Cube) -> Row
+fn below_y(triangle: &Triangle, cube: &Cube) -> NarrowVector
     requires { HasPlanes cube.now }
     ensures { result ≡ below_plane (λ p. p.y) triangle.now (high_of cube.now 1) }
 {
     let plane = cube.hi[1];
-    Row {
-        x: depth(triangle.a.y, plane),
-        y: depth(triangle.b.y, plane),
-        z: depth(triangle.c.y, plane),
-    }
+    let a = depth(triangle.a.y, plane);
+    let b = depth(triangle.b.y, plane);
+    let c = depth(triangle.c.y, plane);
+    NarrowVector::new(a, b, c)
 }
 
 /// How far the corners are above the lower plane across z.
-fn above_z(triangle: &Triangle, cube: &Cube) -> Row
+fn above_z(triangle: &Triangle, cube: &Cube) -> NarrowVector
     requires { HasPlanes cube.now }
     ensures { result ≡ above_plane (λ p. p.z) triangle.now (low_of cube.now 2) }
 {
     let plane = cube.lo[2];
-    Row {
-        x: height(triangle.a.z, plane),
-        y: height(triangle.b.z, plane),
-        z: height(triangle.c.z, plane),
-    }
+    let a = height(triangle.a.z, plane);
+    let b = height(triangle.b.z, plane);
+    let c = height(triangle.c.z, plane);
+    NarrowVector::new(a, b, c)
 }
 
 /// How far the corners are below the upper plane across z.
-fn below_z(triangle: &Triangle, cube: &Cube) -> Row
+fn below_z(triangle: &Triangle, cube: &Cube) -> NarrowVector
     requires { HasPlanes cube.now }
     ensures { result ≡ below_plane (λ p. p.z) triangle.now (high_of cube.now 2) }
 {
     let plane = cube.hi[2];
-    Row {
-        x: depth(triangle.a.z, plane),
-        y: depth(triangle.b.z, plane),
-        z: depth(triangle.c.z, plane),
-    }
+    let a = depth(triangle.a.z, plane);
+    let b = depth(triangle.b.z, plane);
+    let c = depth(triangle.c.z, plane);
+    NarrowVector::new(a, b, c)
 }
 
 /// How far a corner is above a plane.
