@@ -11,3 +11,6 @@ mod rows;
 mod separation;
 
 pub use meeting::overlaps;
+
+#[cfg(test)]
+mod tests;
