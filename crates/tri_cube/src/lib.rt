@@ -1,0 +1,16 @@
+//! Whether a closed triangle and a closed cube share a point, answered exactly in whole numbers.
+//! The test is the overlap test of Schwarz and Seidel (2010), by the weights of the triangle's
+//! corners.
+#![tactic(auto)]
+
+mod candidates;
+mod meeting;
+mod narrow;
+mod products;
+mod rows;
+mod separation;
+
+pub use meeting::overlaps;
+
+#[cfg(test)]
+mod tests;
