@@ -16,6 +16,10 @@ IsSize n = n < 2 ^ 30 + 1
 pub negated : (n : ℕ) → IsSize n → to_z w32 (of_z w32 (pos 0 -ℤ to_z w32 n)) ≡ neg_ℤ (pos n)
 negated n small = omega (arith, ints)
 
+-- a coordinate fits 32 bits
+pub stored : (z : ℤ) → IsCoordinate z → to_z w32 (of_z w32 z) ≡ z
+stored z near = omega (arith, ints)
+
 pub front_plain : (end n : ℕ) (text rest : List ℕ) → IsFront (number_then end) IsSize text n rest → IsFront (coordinate_then end) IsCoordinate text (pos n) rest
 unfolding number_then coordinate_then
 front_plain end n text rest front = record { spelled = front.spelled; good = omega (arith, front.good) }

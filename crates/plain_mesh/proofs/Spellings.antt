@@ -15,6 +15,12 @@ pub record IsUnambiguous {A : Type 0} (spell : A → List ℕ) (Good : A → Typ
 pub same_front : {A : Type 0} (spell : A → List ℕ) (Good : A → Type 0) → IsUnambiguous spell Good → (text : List ℕ) (a b : A) (r s : List ℕ) → IsFront spell Good text a r → IsFront spell Good text b s → (a ≡ b) × (r ≡ s)
 same_front spell Good one text a b r s p q = one.same a b r s p.good q.good (sym p.spelled ∙ q.spelled)
 
+-- what stands behind one value stands behind the other, since both are one
+pub behind : {A B : Type 0} (spell : A → List ℕ) (Good : A → Type 0) (next : B → List ℕ) (Fits : B → Type 0) → IsUnambiguous spell Good → (text : List ℕ) (a b : A) (c : B) (r s t : List ℕ) → IsFront spell Good text a r → IsFront spell Good text b s → IsFront next Fits s c t → IsFront next Fits r c t
+behind spell Good next Fits one text a b c r s t p q more =
+    let e : r ≡ s = (same_front spell Good one text a b r s p q).1 in
+    record { spelled = e ∙ more.spelled; good = more.good }
+
 -- digits end where the first other byte stands
 same_digits : (end : ℕ) (xs ys r s : List ℕ) → end < 48 → AllDigits 10 xs → AllDigits 10 ys → xs ++ end ∷ r ≡ ys ++ end ∷ s → (xs ≡ ys) × (r ≡ s)
 same_digits end [] [] r s mark p q e = (refl, cc)
