@@ -2,7 +2,7 @@
 
 ghost use Rattle.std.specs.Prelude.{◌≡◌, ◌<◌, ◌≤◌, ◌^◌, [], ◌∷◌, ◌++◌, List, ℕ, IfSome, IfNone};
 ghost use Rattle.octree_specs.specs.PlainText.{vertex_line, face_line, IsNear, IsTriple};
-ghost use Rattle.plain_mesh.specs.Fronts.{IsFront, HasNoFront, header_of, AreCounts};
+ghost use Rattle.plain_mesh.specs.Fronts.{IsFront, HasNoFront, number_then, header_of, AreCounts};
 
 use svo_base::Point;
 
@@ -55,10 +55,19 @@ pub(crate) fn face(text: &[u8], vertices: u32) -> Option<((u32, u32, u32), &[u8]
     ensures found { IfSome result (λ p. IsFront face_line (IsTriple vertices) text.now (p.0.0 ∷ p.0.1 ∷ p.0.2 ∷ []) p.1.now) }
     ensures missing { IfNone result (HasNoFront face_line (IsTriple vertices) text.now) }
 {
-    let below = u64::from(vertices);
     let rest = literal(text, b"3 ")?;
-    let (i, rest) = number(rest, below, b' ')?;
-    let (j, rest) = number(rest, below, b' ')?;
-    let (k, rest) = number(rest, below, b'\n')?;
+    let (i, rest) = corner(rest, vertices, b' ')?;
+    let (j, rest) = corner(rest, vertices, b' ')?;
+    let (k, rest) = corner(rest, vertices, b'\n')?;
     Some(((i, j, k), rest))
+}
+
+/// The number of one of so many vertices at the front of the text, and what follows the byte `end`
+/// behind it.
+fn corner(text: &[u8], vertices: u32, end: u8) -> Option<(u32, &[u8])>
+    requires { end < 48 }
+    ensures found { IfSome result (λ p. IsFront (number_then end) (λ n. n < vertices) text.now p.0 p.1.now) }
+    ensures missing { IfNone result (HasNoFront (number_then end) (λ n. n < vertices) text.now) }
+{
+    number(text, u64::from(vertices), end)
 }
