@@ -8,10 +8,6 @@ use Rattle.std.proofs.lemmas.List.Elements.{All-nil, All-head, All-tail, All-pus
 use Rattle.plain_mesh.specs.Fronts.{IsFront, HasNoFront, AreGood}
 use Rattle.plain_mesh.proofs.Spellings.{IsUnambiguous}
 
--- so many values are read, and this is what is left
-pub record IsReadTo {A : Type 0} (spell : A → List ℕ) (Good : A → Type 0) (text : List ℕ) (count : ℕ) (values : List A) (rest : List ℕ) : Type 0 where
-  pub front : IsFront (flat_map spell) (AreGood Good count) text values rest
-
 pub read_none : {A : Type 0} (spell : A → List ℕ) (Good : A → Type 0) (text : List ℕ) → IsFront (flat_map spell) (AreGood Good 0) text [] text
 read_none spell Good text = record { spelled = refl; good = record { number = refl; each = All-nil Good } }
 
