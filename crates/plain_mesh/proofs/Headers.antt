@@ -114,7 +114,7 @@ no_closing text first second third fourth n m opens v goes_on f none counts rest
 counts_of : ℕ → ℕ → Counts
 counts_of vertices faces = record { vertices = vertices; faces = faces }
 
-same_counts : (a b : Counts) → a.vertices ≡ b.vertices → a.faces ≡ b.faces → a ≡ b
+pub same_counts : (a b : Counts) → a.vertices ≡ b.vertices → a.faces ≡ b.faces → a ≡ b
 unfolding counts_of
 same_counts a b v f =
     let e : counts_of a.vertices a.faces ≡ counts_of b.vertices b.faces = cc in

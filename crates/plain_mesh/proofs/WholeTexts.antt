@@ -9,7 +9,7 @@ use Rattle.octree_specs.specs.PlainText.{plain_text, vertex_line, face_line, IsN
 use Rattle.plain_mesh.specs.declared.lines.Counts.{Counts}
 use Rattle.plain_mesh.specs.Fronts.{IsFront, HasNoFront, header_of, AreCounts, AreGood}
 use Rattle.plain_mesh.proofs.Spellings.{IsUnambiguous, same_front}
-use Rattle.plain_mesh.proofs.Headers.{headers_unambiguous}
+use Rattle.plain_mesh.proofs.Headers.{headers_unambiguous, same_counts}
 use Rattle.plain_mesh.proofs.VertexLines.{vertices_unambiguous}
 use Rattle.plain_mesh.proofs.FaceLines.{faces_unambiguous}
 use Rattle.plain_mesh.proofs.Runs.{runs_unambiguous}
@@ -58,7 +58,7 @@ whole text after rest trailing counts vertices faces short h v f none =
     let end : trailing ≡ [] = nil_from_length trailing none in
     let rest_is : rest ≡ flat_map face_line faces = f.spelled ∙ (ap (λ l. flat_map face_line faces ++ l) end ∙ append-nil (flat_map face_line faces)) in
     let after_is : after ≡ lines_of (mesh_of vertices faces) = v.spelled ∙ ap (λ l. flat_map vertex_line vertices ++ l) rest_is in
-    let counts_are : counts ≡ counts_of (mesh_of vertices faces) = cc (v.good.number, f.good.number) in
+    let counts_are : counts ≡ counts_of (mesh_of vertices faces) = same_counts counts (counts_of (mesh_of vertices faces)) (sym v.good.number) (sym f.good.number) in
     let P : ℕ → Type 0 = λ n. All (IsTriple n) faces in
     record {
       spelled = h.spelled ∙ (ap (λ c. header_of c ++ after) counts_are ∙ (ap (λ l. header_of (counts_of (mesh_of vertices faces)) ++ l) after_is ∙ sym (text_is (mesh_of vertices faces))));
