@@ -38,7 +38,7 @@ read_more text at value read inside digit lead =
       within = omega arith;
       digits = digits_more 10 text at inside read.digits low;
       number = omega (arith, digits_value_more 10 text at inside, read.number);
-      lead = λ h. first_digit text at read.lead lead (omega arith)
+      lead = λ h. first_digit text at read.lead lead (omega arith);
     }
 
 only_zero : (text : List ℕ) (at : ℕ) → (1 < at → get_or text 0 0 ≢ 48) → get_or text 0 0 ≡ 48 → 0 < at → length (take at text) ≡ at → length (take at text) ≡ 1
@@ -60,7 +60,7 @@ read_front text at value end below read some inside ends small fits =
     let behind : drop at text ≡ end ∷ drop (at + 1) text = drop_more text at 0 inside ∙ ap (λ e. e ∷ drop (at + 1) text) ends in
     record {
       spelled = sym (take-append-drop at text) ∙ ap (λ l. take at text ++ l) behind ∙ rw (numeral, append_assoc) refl;
-      good = small
+      good = small;
     }
 
 -- a number's numeral and the byte behind it stand at the front

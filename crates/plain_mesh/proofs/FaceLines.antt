@@ -30,7 +30,7 @@ unfolding triple
 corners vertices [] t = absurd (omega (arith, t.three))
 corners vertices (i ∷ []) t = absurd (omega (arith, t.three))
 corners vertices (i ∷ j ∷ []) t = absurd (omega (arith, t.three))
-corners vertices (i ∷ j ∷ k ∷ []) t = 
+corners vertices (i ∷ j ∷ k ∷ []) t =
     let behind_i : All (IsKnown vertices) (j ∷ k ∷ []) = All-tail (IsKnown vertices) i (j ∷ k ∷ []) t.known in
     record {
       i = i;
@@ -39,7 +39,7 @@ corners vertices (i ∷ j ∷ k ∷ []) t =
       face_is = refl;
       i_known = All-head (IsKnown vertices) i (j ∷ k ∷ []) t.known;
       j_known = All-head (IsKnown vertices) j (k ∷ []) behind_i;
-      k_known = All-head (IsKnown vertices) k [] (All-tail (IsKnown vertices) j (k ∷ []) behind_i)
+      k_known = All-head (IsKnown vertices) k [] (All-tail (IsKnown vertices) j (k ∷ []) behind_i);
     }
 corners vertices (i ∷ j ∷ k ∷ l ∷ more) t = absurd (omega (arith, t.three))
 
@@ -91,7 +91,7 @@ cut vertices text face rest front =
       spelled = front.spelled ∙ line;
       first = record { spelled = refl; good = c.i_known };
       second = record { spelled = refl; good = c.j_known };
-      third = record { spelled = refl; good = c.k_known }
+      third = record { spelled = refl; good = c.k_known };
     }
 
 pub joined : (vertices i j k : ℕ) (text body first second rest : List ℕ) → text ≡ 51 ∷ 32 ∷ body → IsFront (number_then 32) (IsKnown vertices) body i first → IsFront (number_then 32) (IsKnown vertices) first j second → IsFront (number_then 10) (IsKnown vertices) second k rest → IsFront face_line (IsTriple vertices) text (i ∷ j ∷ k ∷ []) rest
@@ -101,7 +101,7 @@ joined vertices i j k text body first second rest e a b c =
     let known : All (IsKnown vertices) (j ∷ k ∷ []) = All-cons (IsKnown vertices) j (k ∷ []) b.good (All-cons (IsKnown vertices) k [] c.good (All-nil (IsKnown vertices))) in
     record {
       spelled = e ∙ (ap (λ l. 51 ∷ 32 ∷ l) from_i ∙ sym (face_line_is i j k rest));
-      good = record { three = refl; known = All-cons (IsKnown vertices) i (j ∷ k ∷ []) a.good known }
+      good = record { three = refl; known = All-cons (IsKnown vertices) i (j ∷ k ∷ []) a.good known };
     }
 
 pub no_three : (vertices : ℕ) (text : List ℕ) → ((rest : List ℕ) → text ≡ 51 ∷ 32 ∷ rest → ⊥) → HasNoFront face_line (IsTriple vertices) text

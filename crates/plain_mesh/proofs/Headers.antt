@@ -55,7 +55,7 @@ cut text rest counts front =
       vertices = record { spelled = refl; good = front.good.vertices };
       goes_on = refl;
       faces = record { spelled = refl; good = front.good.faces };
-      closes = refl
+      closes = refl;
     }
 
 pub joined : (text first second third fourth rest : List ℕ) (counts : Counts) → text ≡ opening ++ first → IsFront (number_then 10) IsCount first counts.vertices second → second ≡ middle ++ third → IsFront (number_then 10) IsCount third counts.faces fourth → fourth ≡ closing ++ rest → IsFront header_of AreCounts text counts rest
@@ -65,7 +65,7 @@ joined text first second third fourth rest counts opens v goes_on f closes =
     let from_first : first ≡ after_opening counts.vertices counts.faces rest = v.spelled ∙ ap (λ l. number_then 10 counts.vertices ++ l) (goes_on ∙ ap (λ l. middle ++ l) from_third) in
     record {
       spelled = opens ∙ (ap (λ l. opening ++ l) from_first ∙ sym (header_is counts rest));
-      good = record { vertices = v.good; faces = f.good }
+      good = record { vertices = v.good; faces = f.good };
     }
 
 -- what is behind a text that begins in the same way

@@ -16,7 +16,7 @@ read_more spell Good text rest after count values value front next =
     let pieces : flat_map spell (values ++ value ∷ []) ≡ flat_map spell values ++ spell value = flat_map-append spell values (value ∷ []) ∙ ap (λ l. flat_map spell values ++ l) (append-nil (spell value)) in
     record {
       spelled = front.spelled ∙ (ap (λ l. flat_map spell values ++ l) next.spelled ∙ (sym (append_assoc (flat_map spell values) (spell value) after) ∙ ap (λ l. l ++ after) (sym pieces)));
-      good = record { number = length_push values value ∙ ap (λ n. n + 1) front.good.number; each = All-push Good values value front.good.each next.good }
+      good = record { number = length_push values value ∙ ap (λ n. n + 1) front.good.number; each = All-push Good values value front.good.each next.good };
     }
 
 -- one more value than were read is at the front of what is left

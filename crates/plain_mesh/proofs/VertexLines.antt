@@ -27,7 +27,7 @@ unfolding after_x after_y
 cut text rest p front = record {
   x = record { spelled = front.spelled ∙ vertex_line_is p rest; good = front.good.x };
   y = record { spelled = refl; good = front.good.y };
-  z = record { spelled = refl; good = front.good.z }
+  z = record { spelled = refl; good = front.good.z };
 }
 
 pub joined : (text first second rest : List ℕ) (p : Point) → IsFront (coordinate_then 32) IsCoordinate text p.x first → IsFront (coordinate_then 32) IsCoordinate first p.y second → IsFront (coordinate_then 10) IsCoordinate second p.z rest → IsFront vertex_line IsNear text p rest
@@ -35,7 +35,7 @@ unfolding after_x after_y
 joined text first second rest p a b c =
     record {
       spelled = a.spelled ∙ (ap (λ l. coordinate_then 32 p.x ++ l) (b.spelled ∙ ap (λ l. coordinate_then 32 p.y ++ l) c.spelled) ∙ sym (vertex_line_is p rest));
-      good = record { x = a.good; y = b.good; z = c.good }
+      good = record { x = a.good; y = b.good; z = c.good };
     }
 
 pub no_x : (text : List ℕ) → HasNoFront (coordinate_then 32) IsCoordinate text → HasNoFront vertex_line IsNear text

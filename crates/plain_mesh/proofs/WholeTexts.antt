@@ -48,7 +48,7 @@ faces_front text after rest counts vertices mesh h v t =
     let P : ℕ → Type 0 = λ n. All (IsTriple n) mesh.faces in
     record {
       spelled = run.1 ∙ sym (append-nil (flat_map face_line mesh.faces));
-      good = record { number = sym (ap (λ c. c.faces) one.0); each = subst P number t.within.faces }
+      good = record { number = sym (ap (λ c. c.faces) one.0); each = subst P number t.within.faces };
     }
 
 -- what was read is the text's mesh
@@ -67,8 +67,8 @@ whole text after rest trailing counts vertices faces short h v f none =
         vertex_count = omega (arith, v.good.number, h.good.vertices);
         face_count = omega (arith, f.good.number, h.good.faces);
         vertices = v.good.each;
-        faces = subst P (sym v.good.number) f.good.each
-      }
+        faces = subst P (sym v.good.number) f.good.each;
+      };
     }
 
 pub no_header : (text : List ℕ) → HasNoFront header_of AreCounts text → (mesh : Mesh) → IsPlainText text mesh → ⊥

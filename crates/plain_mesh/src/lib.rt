@@ -7,3 +7,6 @@ mod numerals;
 mod plain;
 
 pub use plain::{PlainFault, PlainMesh, one_mesh};
+
+#[cfg(test)]
+mod tests;

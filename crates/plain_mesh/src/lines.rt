@@ -4,17 +4,15 @@ ghost use Rattle.std.specs.Prelude.{◌≡◌, ◌<◌, ◌≤◌, ◌^◌, [], 
 ghost use Rattle.octree_specs.specs.PlainText.{vertex_line, face_line, IsNear, IsTriple};
 ghost use Rattle.plain_mesh.specs.Fronts.{IsFront, HasNoFront, number_then, header_of, AreCounts};
 
-use svo_base::Point;
-
 use crate::numerals::{coordinate, literal, number};
+use svo_base::Point;
 
 /// Counts are smaller than this.
 const COUNTS: u64 = 1 << 32;
 
 const BEFORE_VERTEX_COUNT: &[u8] = b"ply\nformat ascii 1.0\nelement vertex ";
 
-const BEFORE_FACE_COUNT: &[u8] =
-    b"property int x\nproperty int y\nproperty int z\nelement face ";
+const BEFORE_FACE_COUNT: &[u8] = b"property int x\nproperty int y\nproperty int z\nelement face ";
 
 const AFTER_FACE_COUNT: &[u8] = b"property list uchar int vertex_indices\nend_header\n";
 

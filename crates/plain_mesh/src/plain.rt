@@ -6,11 +6,10 @@ ghost use Rattle.octree_specs.specs.Mesh.{Mesh, vertex_at, fan_of, triangles_of}
 ghost use Rattle.octree_specs.specs.PlainText.{vertex_line, face_line, IsNear, IsTriple, IsPlainText};
 ghost use Rattle.plain_mesh.specs.Fronts.{IsFront, HasNoFront, AreGood};
 
+use crate::lines;
 use std::alloc::{AllocError, AllocFailed, Global};
 use std::marker::Model;
 use svo_base::{Point, Triangle};
-
-use crate::lines;
 
 /// The most bytes that a text has.
 const MAX_BYTES: usize = 1 << 32;
@@ -102,6 +101,7 @@ impl PlainMesh {
     }
 
     /// The triangles of the faces, in order.
+    #[tactic(auto, unfolding(octree_specs::specs::Mesh::triangles_of))]
     pub fn triangles(&self, alloc: Global) -> Result<Vec<Triangle>, AllocError>
         ensures { IfOk result (λ triangles. triangles.items ≡ triangles_of self.now) }
     {
@@ -116,15 +116,10 @@ impl PlainMesh {
 /// A text stands for at most one mesh.
 pub fn one_mesh()
     ensures { (text : List ℕ) (m n : Mesh) → IsPlainText text m → IsPlainText text n → m ≡ n }
-{
-}
+{}
 
 /// The vertices of so many lines at the front of the text, and the lines behind them.
-fn read_vertices(
-    alloc: Global,
-    text: &[u8],
-    count: u32,
-) -> Result<(Vec<Point>, &[u8]), PlainFault>
+fn read_vertices(alloc: Global, text: &[u8], count: u32) -> Result<(Vec<Point>, &[u8]), PlainFault>
     ensures found { IfOk result (λ p. IsFront (flat_map vertex_line) (AreGood IsNear count) text.now p.0.items p.1.now) }
     ensures not_plain { result ≡ Err PlainFault.NotPlain → HasNoFront (flat_map vertex_line) (AreGood IsNear count) text.now }
 {

@@ -25,7 +25,7 @@ returns-then-not-is_ascii_digit-clause-missing c =
     c.requires.limit
 
 pub returns-then-value-below-clause-missing : goal.returns-then-value-below-clause-missing
-returns-then-value-below-clause-missing c = 
+returns-then-value-below-clause-missing c =
     let lead : c.loop-at.at ≡ 1 → get_or c.args.text.now 0 0 ≢ 48 =
     elim c.else-at-eq1.branch [ else-at-eq1-via-then-at-eq1+else-text-eq48 w ↦ λ _. w.if-text-eq48.false | else-at-eq1-via-else-at-eq1 w ↦ λ one. absurd (w.if-at-eq1.false one) ] in
     let read : IsReadTo c.args.text.now (c.loop-at.at + 1) (c.loop-at.value * 10 + c.from.result) = rw c.from.ensures (read_more c.args.text.now c.loop-at.at c.loop-at.value c.loop-at.invariant.read c.loop-at-test.true c.if-not-is_ascii_digit.ensures.cases lead) in
@@ -37,7 +37,7 @@ loop-at-preserved c =
     elim c.else-at-eq1.branch [ else-at-eq1-via-then-at-eq1+else-text-eq48 w ↦ λ _. w.if-text-eq48.false | else-at-eq1-via-else-at-eq1 w ↦ λ one. absurd (w.if-at-eq1.false one) ] in
     record {
       read = rw c.from.ensures (read_more c.args.text.now c.loop-at.at c.loop-at.value c.loop-at.invariant.read c.loop-at-test.true c.if-not-is_ascii_digit.ensures.cases lead);
-      small = λ _. c.if-value-below.false
+      small = λ _. c.if-value-below.false;
     }
 
 pub returns-clause-missing : goal.returns-clause-missing
