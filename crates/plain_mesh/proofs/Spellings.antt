@@ -1,12 +1,12 @@
 -- Spellings of which none begins another: a text has one good value at its front at most.
-use Rattle.std.proofs.Common.{◌≡◌, ◌≢◌, ℕ, ◌+◌, ◌^◌, ◌<◌, ◌≤◌, List, [], ◌∷◌, ◌++◌, length, get_or, refl, sym, ap, ◌∙◌, ⊎_elim, arith, suc, ℤ, pos, negsuc, unsigned_abs, neg_ℤ}
+use Rattle.std.proofs.Common.{◌≡◌, ℕ, ◌^◌, ◌<◌, ◌≤◌, List, [], ◌∷◌, ◌++◌, length, get_or, refl, sym, ap, ◌∙◌, arith, suc, ℤ, pos, negsuc}
 use Rattle.std.specs.Int.{IsInRange}
-use Rattle.std.specs.Str.Parse.{digits_value, AllDigits}
-use Rattle.std.specs.Fmt.{decimal, signed_decimal}
+use Rattle.std.specs.Str.Parse.{AllDigits}
+use Rattle.std.specs.Fmt.{decimal}
 use Rattle.std.proofs.lemmas.List.{append_assoc, get_or_append_left}
 use Rattle.std.proofs.lemmas.Str.Parse.{digit_from_value, digit_at}
 use Rattle.std.proofs.lemmas.Fmt.{decimal_is_IsNumeral, decimal_injective, decimal_nonempty}
-use Rattle.plain_mesh.specs.Fronts.{IsFront, HasNoFront, number_then, coordinate_then, IsCoordinate}
+use Rattle.plain_mesh.specs.Fronts.{IsFront, number_then, coordinate_then, IsCoordinate}
 
 -- what is spelled differs, or else both the value and what follows are the same
 pub record IsUnambiguous {A : Type 0} (spell : A → List ℕ) (Good : A → Type 0) : Type 0 where

@@ -1,5 +1,5 @@
 -- A vertex's line at the front of a text, by its three coordinates.
-use Rattle.std.proofs.Common.{◌≡◌, ℕ, List, [], ◌∷◌, ◌++◌, refl, sym, ap, ◌∙◌, lit<, ℤ}
+use Rattle.std.proofs.Common.{◌≡◌, ℕ, List, ◌++◌, refl, sym, ap, ◌∙◌, lit<, ℤ}
 use Rattle.std.proofs.lemmas.List.{append_assoc}
 use Rattle.svo_base.specs.declared.shapes.Point.{Point}
 use Rattle.octree_specs.specs.PlainText.{vertex_line, IsNear}

@@ -1,14 +1,14 @@
 -- A whole text: its header, its vertices' lines and its faces' lines, and nothing behind them.
-use Rattle.std.proofs.Common.{◌≡◌, ℕ, ◌+◌, ◌^◌, ◌<◌, ◌≤◌, List, [], ◌∷◌, ◌++◌, length, refl, sym, ap, ◌∙◌, subst, arith}
+use Rattle.std.proofs.Common.{◌≡◌, ℕ, ◌^◌, ◌≤◌, List, [], ◌++◌, length, sym, ap, ◌∙◌, subst, arith}
 use Rattle.std.specs.Prelude.{All}
 use Rattle.std.specs.List.{flat_map}
 use Rattle.std.proofs.lemmas.List.{append_assoc, append-nil, nil_from_length}
 use Rattle.svo_base.specs.declared.shapes.Point.{Point}
 use Rattle.octree_specs.specs.Mesh.{Mesh}
-use Rattle.octree_specs.specs.PlainText.{plain_text, vertex_line, face_line, IsNear, IsTriple, IsPlainMesh, IsPlainText}
+use Rattle.octree_specs.specs.PlainText.{plain_text, vertex_line, face_line, IsNear, IsTriple, IsPlainText}
 use Rattle.plain_mesh.specs.declared.lines.Counts.{Counts}
 use Rattle.plain_mesh.specs.Fronts.{IsFront, HasNoFront, header_of, AreCounts, AreGood}
-use Rattle.plain_mesh.proofs.Spellings.{IsUnambiguous, same_front}
+use Rattle.plain_mesh.proofs.Spellings.{same_front}
 use Rattle.plain_mesh.proofs.Headers.{headers_unambiguous, same_counts}
 use Rattle.plain_mesh.proofs.VertexLines.{vertices_unambiguous}
 use Rattle.plain_mesh.proofs.FaceLines.{faces_unambiguous}

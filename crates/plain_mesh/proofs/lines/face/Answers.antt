@@ -1,5 +1,5 @@
 use Rattle.std.proofs.Common.{◌≤◌, ◌^◌, arith}
-use Rattle.plain_mesh.proofs.FaceLines.{IsKnown, joined, no_three, no_i, no_j, no_k}
+use Rattle.plain_mesh.proofs.FaceLines.{joined, no_three, no_i, no_j, no_k}
 use Rattle.plain_mesh.proofs.lines.face.Goals as goal
 
 pub returns-in_err-rest-clause-missing : goal.returns-in_err-rest-clause-missing

@@ -1,5 +1,4 @@
-use Rattle.std.proofs.Common.{◌≡◌, ◌≢◌, ◌<◌, ◌+◌, ◌-◌, ◌*◌, length, get_or, drop, ⊎_elim, arith}
-use Rattle.std.specs.Int.{IsInRange}
+use Rattle.std.proofs.Common.{◌≡◌, ◌≢◌, ◌+◌, ◌*◌, get_or, ⊎_elim, arith}
 use Rattle.std.proofs.lemmas.List.{take_rest}
 use Rattle.plain_mesh.proofs.Digits.{IsReadTo, read_front, read_more, refuse_short, refuse_byte, refuse_zero, refuse_large}
 use Rattle.plain_mesh.proofs.numerals.number.Goals as goal

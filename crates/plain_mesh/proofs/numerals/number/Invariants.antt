@@ -1,4 +1,4 @@
-use Rattle.std.proofs.Common.{◌≡◌, ◌<◌, ◌≤◌}
+use Rattle.std.proofs.Common.{◌<◌}
 use Rattle.plain_mesh.proofs.Digits.{IsReadTo}
 use Rattle.plain_mesh.proofs.numerals.number.Given as goal
 
