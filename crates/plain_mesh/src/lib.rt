@@ -1,0 +1,12 @@
+//! Reads a triangle mesh from a text in the plain form: ASCII PLY 1.0 with one fixed header, three
+//! whole coordinates a vertex, three corners a face, single spaces and line feeds.
+#![tactic(auto)]
+
+mod lines;
+mod numerals;
+mod plain;
+
+pub use plain::{PlainFault, PlainMesh, one_mesh};
+
+#[cfg(test)]
+mod tests;
