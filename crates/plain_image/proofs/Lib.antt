@@ -1,0 +1,3 @@
+pub mod NodeCounts
+pub mod PassedCodes
+pub mod WrittenChildren

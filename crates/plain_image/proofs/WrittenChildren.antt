@@ -1,0 +1,112 @@
+-- The words that are written while the children of a node are walked.
+use Rattle.std.proofs.Common.{◌≡◌, ℕ, zero, suc, ◌+◌, ◌*◌, ◌%◌, ◌^◌, ◌<◌, ◌≤◌, Bool, true, false, cond, List, [], ◌∷◌, ◌++◌, length, map, refl, ap, sym, ◌∙◌, subst, arith, add-zero, add-one, add_assoc, lit<, lit≤, append-nil, append_assoc}
+use Rattle.std.specs.List.{filter, flat_map, sum_by, range_with_len}
+use Rattle.std.proofs.Math.Nat.{pow-suc}
+use Rattle.std.proofs.lemmas.List.{length-append, length_push, map-id, map-append, map_push, flat_map_more}
+use Rattle.std.proofs.lemmas.List.Concat.{flat_map-append}
+use Rattle.std.proofs.lemmas.List.Elements.{filter-append}
+use Rattle.std.proofs.lemmas.List.Sums.{sum_by-cons, sum_by_push}
+use Rattle.octree_specs.specs.NodeWords.{Placed, placed, is_nonempty, children_of, size_of, mask_of, base_of, word_of, below_of}
+use Rattle.plain_image.proofs.NodeCounts.{length-below_of, size_of-le}
+
+-- the nonempty ones of the first children of a node
+unfoldable pub first_children : List ℕ → ℕ → ℕ → ℕ → List ℕ
+first_children codes height node count = filter (is_nonempty codes height) (range_with_len (8 * node) count)
+
+-- the words below these nodes, node by node
+abbrev pub words_below : List ℕ → ℕ → ℕ → List ℕ → List ℕ
+words_below codes height at nodes = flat_map (λ child. below_of codes height child.node child.at) (placed (size_of codes height) at nodes)
+
+-- the words of these nodes
+abbrev pub words_at : List ℕ → ℕ → ℕ → List ℕ → List ℕ
+words_at codes height at nodes = map (λ child. word_of codes height child.node child.at) (placed (size_of codes height) at nodes)
+
+-- so many of the children were walked: what was written, what is to be written after them, and the bits of the mask
+pub record AreWritten (codes : List ℕ) (height node count : ℕ) (before words children : List ℕ) (mask : ℕ) : Type 0 where
+  pub below : words ≡ before ++ words_below codes height (length before) (first_children codes height node count)
+  pub own : children ≡ words_at codes height (length before) (first_children codes height node count)
+  pub bits : mask ≡ sum_by (λ child. 2 ^ (child % 8)) (first_children codes height node count)
+  pub long : length words ≡ length before + sum_by (size_of codes height) (first_children codes height node count)
+  pub few : length children ≤ count
+  pub small : mask < 2 ^ count
+
+-- one more number
+range_with_len-suc : (from count : ℕ) → range_with_len from (suc count) ≡ range_with_len from count ++ (from + count) ∷ []
+range_with_len-suc from zero = rw (add-zero from) refl
+range_with_len-suc from (suc count) =
+    let e : (from + 1) + count ≡ from + suc count = omega arith in
+    rw (← e) (ap (λ (rest : List ℕ). from ∷ rest) (range_with_len-suc (from + 1) count))
+
+-- one more node, after those below the nodes before it
+placed_push : (size : ℕ → ℕ) (at : ℕ) (nodes : List ℕ) (node : ℕ) → placed size at (nodes ++ node ∷ []) ≡ placed size at nodes ++ record { node = node; at = at + sum_by size nodes } ∷ []
+placed_push size at [] node = rw (add-zero at) refl
+placed_push size at (first ∷ rest) node =
+    let e : (at + size first) + sum_by size rest ≡ at + sum_by size (first ∷ rest) = rw (sum_by-cons size first rest) (omega arith) in
+    rw (← e) (ap (λ more. record { node = first; at = at } ∷ more) (placed_push size (at + size first) rest node))
+
+-- one more child, if it is nonempty
+first_children_more : (codes : List ℕ) (height node count : ℕ) → first_children codes height node (count + 1)
+    ≡ first_children codes height node count ++ cond (is_nonempty codes height (8 * node + count)) ((8 * node + count) ∷ []) []
+unfolding first_children
+first_children_more codes height node count =
+    ap (λ n. filter (is_nonempty codes height) (range_with_len (8 * node) n)) (add-one count)
+    ∙ ap (filter (is_nonempty codes height)) (range_with_len-suc (8 * node) count)
+    ∙ filter-append (is_nonempty codes height) (range_with_len (8 * node) count) ((8 * node + count) ∷ [])
+
+pub no_children : (codes : List ℕ) (height node : ℕ) (before : List ℕ) → AreWritten codes height node 0 before before [] 0
+unfolding first_children
+no_children codes height node before =
+    record { below = sym (append-nil before); own = refl; bits = refl; long = sym (add-zero (length before)); few = lit≤ tt; small = lit< tt }
+
+-- an empty child is passed over
+pub skip_empty : (codes : List ℕ) (height node count : ℕ) (before words children : List ℕ) (mask : ℕ)
+    → AreWritten codes height node count before words children mask → is_nonempty codes height (8 * node + count) ≡ false
+    → AreWritten codes height node (count + 1) before words children mask
+skip_empty codes height node count before words children mask written empty =
+    let same : first_children codes height node (count + 1) ≡ first_children codes height node count =
+      first_children_more codes height node count ∙ rw empty (append-nil (first_children codes height node count)) in
+    let twice : 2 ^ (count + 1) ≡ 2 ^ count * 2 = rw (add-one count) (pow-suc 2 count) in
+    record {
+      below = rw same written.below;
+      own = rw same written.own;
+      bits = rw same written.bits;
+      long = rw same written.long;
+      few = let few : length children ≤ count = written.few in omega arith;
+      small = let small : mask < 2 ^ count = written.small in omega arith
+    }
+
+-- the words below a nonempty child are written, its own is kept for later, and its bit is set
+pub write_child : (codes : List ℕ) (height node count : ℕ) (before words children : List ℕ) (mask : ℕ)
+    → AreWritten codes height node count before words children mask → is_nonempty codes height (8 * node + count) ≡ true → count < 8
+    → AreWritten codes height node (count + 1) before (words ++ below_of codes height (8 * node + count) (length words))
+    (children ++ word_of codes height (8 * node + count) (length words) ∷ []) (mask + 2 ^ count)
+write_child codes height node count before words children mask written nonempty octant =
+    let nodes : List ℕ = first_children codes height node count in
+    let child : ℕ = 8 * node + count in
+    let size : ℕ → ℕ = size_of codes height in
+    let start : ℕ = length before in
+    let at : ℕ = start + sum_by size nodes in
+    let here : Placed = record { node = child; at = at } in
+    let more : first_children codes height node (count + 1) ≡ nodes ++ child ∷ [] = first_children_more codes height node count ∙ rw nonempty refl in
+    let places : placed size start (nodes ++ child ∷ []) ≡ placed size start nodes ++ here ∷ [] = placed_push size start nodes child in
+    let long : length words ≡ at = written.long in
+    let longer : length (below_of codes height child (length words)) ≡ size child = length-below_of codes height child (length words) in
+    let last : child % 8 ≡ count = omega arith in
+    let twice : 2 ^ (count + 1) ≡ 2 ^ count * 2 = rw (add-one count) (pow-suc 2 count) in
+    record {
+      below =
+        rw (more, places, long, written.below)
+        (flat_map_more (λ (c : Placed). below_of codes height c.node c.at) before (placed size start nodes) here);
+      own =
+        rw (more, places, long, written.own)
+        (sym (map_push (λ (c : Placed). word_of codes height c.node c.at) (placed size start nodes) here));
+      bits =
+        rw (more, sum_by_push (λ c. 2 ^ (c % 8)) nodes child, last, written.bits) refl;
+      long =
+        let total : sum_by size (nodes ++ child ∷ []) ≡ sum_by size nodes + size child = sum_by_push size nodes child in
+        rw (more, total, length-append words (below_of codes height child (length words))) (omega arith);
+      few =
+        let few : length children ≤ count = written.few in
+        rw (length_push children (word_of codes height child (length words))) (omega arith);
+      small = let small : mask < 2 ^ count = written.small in omega arith
+    }
