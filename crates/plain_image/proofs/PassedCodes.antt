@@ -1,7 +1,7 @@
 -- Where the codes of the cells under a node stand among sorted codes.
 use Rattle.std.proofs.Common.{◌≡◌, ◌≢◌, ℕ, zero, suc, ◌+◌, ◌*◌, ◌/◌, ◌^◌, ◌<◌, ◌≤◌, true, false, eqb, List, length, get_or, refl, sym, ◌∙◌, arith, lit<, ⊎_elim}
 use Rattle.std.specs.List.Sorted.{IsStrictlyIncreasing}
-use Rattle.std.proofs.Math.Nat.{one-le-pow, pow-suc, le-div_iff_mul-le, div-lt_iff_lt-mul, div-mul-le_self, lt-div-mul-add}
+use Rattle.std.proofs.Math.Nat.{one-le-pow, pow-suc, mul-le-mul_left, mul-le-mul_right, pow-le-pow_right, le-div_iff_mul-le, div-lt_iff_lt-mul, div-mul-le_self, lt-div-mul-add}
 use Rattle.std.proofs.lemmas.Nat.{pow-add}
 use Rattle.std.proofs.lemmas.Bool.{cases_lt, cases_eq, both_ways, eq-eqb, ne_eqb, eqb-true}
 use Rattle.std.proofs.lemmas.List.Elements.{All-from_get_or}
@@ -20,6 +20,29 @@ octal_digits (suc n) =
 
 pub octal_positive : (n : ℕ) → 0 < 8 ^ n
 octal_positive n = one-le-pow n 8 (lit< tt)
+
+-- a node within so many cells is not high
+pub shallow_from : (height node : ℕ) → (node + 1) * 8 ^ height ≤ 2 ^ 36 → height ≤ 12
+shallow_from height node inside =
+    ⊎_elim
+    (λ (high : 12 < height).
+      let more : 8 ^ 13 ≤ 8 ^ height = pow-le-pow_right {n = 8} (lit< tt) {i = 13} {j = height} high in
+      absurd (omega arith))
+    (λ low. low)
+    (cases_lt 12 height)
+
+-- a node's code is below the number of cells that the nodes up to it have
+pub node_within : (height node : ℕ) → node + 1 ≤ (node + 1) * 8 ^ height
+node_within height node =
+    let positive : 1 ≤ 8 ^ height = octal_positive height in
+    omega (arith, mul-le-mul_left (node + 1) positive)
+
+-- a child's cells are among its parent's
+pub child_inside : (lower height node octant limit : ℕ) → height ≡ suc lower → octant < 8 → (node + 1) * 8 ^ height ≤ limit → (8 * node + octant + 1) * 8 ^ lower ≤ limit
+child_inside lower height node octant limit up within inside =
+    let inside' : (node + 1) * (8 ^ lower * 8) ≤ limit = rw (up, pow-suc 8 lower) at inside in
+    let child : (8 * node + octant + 1) * 8 ^ lower ≤ (8 * node + 8) * 8 ^ lower = mul-le-mul_right (8 ^ lower) (omega arith) in
+    omega arith
 
 -- the codes of the cells under a node are those between two multiples
 pub is_under : (height node code : ℕ) → node * 8 ^ height ≤ code → code < (node + 1) * 8 ^ height → code / 8 ^ height ≡ node
@@ -133,3 +156,17 @@ passed_cell codes node place ascending passed nonempty =
       let order : get_or codes place 0 < get_or codes k 0 = AllPairs-from_increasing codes ascending place k 0 (omega arith) within in
       omega arith
     }
+
+-- before the first child is where its parent begins
+pub passed_before_children : (codes : List ℕ) (lower height node place : ℕ) → height ≡ suc lower
+    → HasPassed codes place (node * 8 ^ height) → HasPassed codes place ((8 * node + 0) * 8 ^ lower)
+passed_before_children codes lower height node place up passed =
+    let first : node * 8 ^ height ≡ (8 * node + 0) * 8 ^ lower = rw (up, pow-suc 8 lower) (omega arith) in
+    rw first at passed
+
+-- past the last child is where its parent ends
+pub passed_children : (codes : List ℕ) (lower height node octant place : ℕ) → height ≡ suc lower → octant ≡ 8
+    → HasPassed codes place ((8 * node + octant) * 8 ^ lower) → HasPassed codes place ((node + 1) * 8 ^ height)
+passed_children codes lower height node octant place up last passed =
+    let next : (8 * node + octant) * 8 ^ lower ≡ (node + 1) * 8 ^ height = rw (up, pow-suc 8 lower, last) (omega arith) in
+    rw next at passed

@@ -1,11 +1,14 @@
 -- The words that are written while the children of a node are walked.
-use Rattle.std.proofs.Common.{◌≡◌, ℕ, zero, suc, ◌+◌, ◌*◌, ◌%◌, ◌^◌, ◌<◌, ◌≤◌, Bool, true, false, cond, List, [], ◌∷◌, ◌++◌, length, map, refl, ap, sym, ◌∙◌, subst, arith, add-zero, add-one, add_assoc, lit<, lit≤, append-nil, append_assoc}
+use Rattle.std.proofs.Common.{◌≡◌, ℕ, zero, suc, ◌+◌, ◌*◌, ◌%◌, ◌^◌, ◌<◌, ◌≤◌, Bool, true, false, cond, List, [], ◌∷◌, ◌++◌, length, get_or, map, refl, ap, sym, ◌∙◌, subst, arith, add-zero, add-one, add_assoc, lit<, lit≤, append-nil, append_assoc}
 use Rattle.std.specs.List.{filter, flat_map, sum_by, range_with_len}
-use Rattle.std.proofs.Math.Nat.{pow-suc}
+use Rattle.std.proofs.Math.Nat.{pow-suc, mul-le-mul_right}
+use Rattle.std.specs.Prelude.{bit_or}
+use Rattle.std.proofs.lemmas.Nat.{one_shl, or_comm, or_shifted}
+use Rattle.std.proofs.lemmas.List.FromFn.{length-range_with_len}
 use Rattle.std.proofs.lemmas.List.{length-append, length_push, map-id, map-append, map_push, flat_map_more}
 use Rattle.std.proofs.lemmas.List.Concat.{flat_map-append}
 use Rattle.std.proofs.lemmas.List.Elements.{filter-append}
-use Rattle.std.proofs.lemmas.List.Sums.{sum_by-cons, sum_by_push}
+use Rattle.std.proofs.lemmas.List.Sums.{sum_by-cons, sum_by_push, sum_by-le, length-filter, count_by-le-length}
 use Rattle.octree_specs.specs.NodeWords.{Placed, placed, is_nonempty, children_of, size_of, mask_of, base_of, word_of, below_of}
 use Rattle.plain_image.proofs.NodeCounts.{length-below_of, size_of-le}
 
@@ -110,3 +113,78 @@ write_child codes height node count before words children mask written nonempty 
         rw (length_push children (word_of codes height child (length words))) (omega arith);
       small = let small : mask < 2 ^ count = written.small in omega arith
     }
+
+-- a bit above all others is added
+pub set_bit : (mask octant : ℕ) → mask < 2 ^ octant → octant < 64 → bit_or mask ((1 * 2 ^ octant) % 2 ^ 64) ≡ mask + 2 ^ octant
+set_bit mask octant small within =
+    let one : 1 * 2 ^ octant ≡ 2 ^ octant = omega arith in
+    let shifted : bit_or (1 * 2 ^ octant) mask ≡ 1 * 2 ^ octant + mask = or_shifted 1 octant mask small in
+    rw (one_shl octant 64 within, or_comm mask (2 ^ octant)) (rw one at shifted ∙ omega arith)
+
+-- the first children are at most so many
+length-first_children : (codes : List ℕ) (height node count : ℕ) → length (first_children codes height node count) ≤ count
+unfolding first_children
+length-first_children codes height node count =
+    omega (arith, length-filter (is_nonempty codes height) (range_with_len (8 * node) count), count_by-le-length (is_nonempty codes height) (range_with_len (8 * node) count), length-range_with_len (8 * node) count)
+
+-- there are no more words than cells before the next child
+pub words_fit : (codes : List ℕ) (lower height node count : ℕ) (before words children : List ℕ) (mask : ℕ)
+    → height ≡ suc lower → AreWritten codes lower node count before words children mask → length before ≤ node * 8 ^ height → length words ≤ (8 * node + count) * 8 ^ lower
+words_fit codes lower height node count before words children mask up written room =
+    let nodes : List ℕ = first_children codes lower node count in
+    let all : sum_by (size_of codes lower) nodes ≤ length nodes * 8 ^ lower =
+      sum_by-le (size_of codes lower) (8 ^ lower) nodes (λ k d within. size_of-le codes lower (get_or nodes k d)) in
+    let few : length nodes * 8 ^ lower ≤ count * 8 ^ lower = mul-le-mul_right (8 ^ lower) (length-first_children codes lower node count) in
+    let long : length words ≡ length before + sum_by (size_of codes lower) nodes = written.long in
+    let room' : length before ≤ node * (8 ^ lower * 8) = rw (up, pow-suc 8 lower) at room in
+    omega arith
+
+-- where all children were walked, as long as the list of words was short, it still is
+pub all_words_fit : (codes : List ℕ) (lower height node count limit : ℕ) (before words children : List ℕ) (mask : ℕ)
+    → height ≡ suc lower → count ≡ 8 → AreWritten codes lower node count before words children mask → length before ≤ node * 8 ^ height → (node + 1) * 8 ^ height ≤ limit → length words ≤ limit
+all_words_fit codes lower height node count limit before words children mask up last written room inside =
+    let fit : length words ≤ (8 * node + count) * 8 ^ lower = words_fit codes lower height node count before words children mask up written room in
+    let fit' : length words ≤ (8 * node + 8) * 8 ^ lower = rw last at fit in
+    let inside' : (node + 1) * (8 ^ lower * 8) ≤ limit = rw (up, pow-suc 8 lower) at inside in
+    omega arith
+
+all_children : (codes : List ℕ) (height node : ℕ) → children_of codes height node ≡ first_children codes height node 8
+unfolding children_of first_children
+all_children codes height node = refl
+
+nothing_below : (codes : List ℕ) (places : List Placed) → flat_map (λ (child : Placed). below_of codes 0 child.node child.at) places ≡ []
+unfolding below_of
+nothing_below codes [] = refl
+nothing_below codes (child ∷ rest) = nothing_below codes rest
+
+-- just above the cells nothing is written, and the mask is the word
+pub above_cells : (codes : List ℕ) (lower height node at : ℕ) (before words children : List ℕ) (mask : ℕ)
+    → height ≡ 1 → lower ≡ 0 → AreWritten codes lower node 8 before words children mask
+    → (words ≡ before ++ below_of codes height node at) × (mask ≡ word_of codes height node at)
+unfolding below_of mask_of base_of
+above_cells codes lower height node at before words children mask up cells written =
+    let low : AreWritten codes 0 node 8 before words children mask = rw cells at written in
+    rw up
+    (low.below ∙ ap (λ more. before ++ more) (nothing_below codes (placed (size_of codes 0) (length before) (first_children codes 0 node 8))),
+     low.bits ∙ rw (all_children codes 0 node) (omega arith))
+
+-- higher up the children's words are written after those below them, and the base is where they begin
+pub above_nodes : (codes : List ℕ) (lower height node at : ℕ) (before words children : List ℕ) (mask : ℕ)
+    → height ≡ suc lower → 0 < lower → length before ≡ at → AreWritten codes lower node 8 before words children mask
+    → (words ++ children ≡ before ++ below_of codes height node at) × (mask + 256 * length words ≡ word_of codes height node at)
+unfolding below_of mask_of base_of
+above_nodes codes zero height node at before words children mask up positive start written = absurd (omega arith)
+above_nodes codes (suc lower) height node at before words children mask up positive start written =
+    let nodes : List ℕ = first_children codes (suc lower) node 8 in
+    rw (up, ← start)
+    (rw (all_children codes (suc lower) node, written.below, written.own) (append_assoc before (words_below codes (suc lower) (length before) nodes) (words_at codes (suc lower) (length before) nodes)),
+     rw (all_children codes (suc lower) node, written.bits, written.long) refl)
+
+-- the word of a cell
+pub cell_word : (codes : List ℕ) (height node at : ℕ) → height ≡ 0 → 0 ≡ word_of codes height node at
+unfolding mask_of base_of
+cell_word codes height node at cell = rw cell refl
+
+pub below_cell : (codes : List ℕ) (height node at : ℕ) → height ≡ 0 → below_of codes height node at ≡ []
+unfolding below_of
+below_cell codes height node at cell = rw cell refl
