@@ -2,7 +2,7 @@
 
 ghost use Rattle.std.specs.Prelude.{◌≡◌, ◌++◌, length, IfOk, OnOk};
 ghost use Rattle.std.specs.List.{flat_map};
-ghost use Rattle.std.specs.Int.{w64, to_le_bytes};
+ghost use Rattle.std.specs.Int.{w64, cast_unsigned, to_le_bytes};
 ghost use Rattle.octree_specs.specs.NodeWords.{AreCells, words_of};
 ghost use Rattle.octree_specs.specs.NodeFile.{header_of, trailer_of, image_of};
 
@@ -21,6 +21,7 @@ pub struct NodeImage {
 
 /// The node file of a grid and the cells of these codes, which ascend. It fails for want of
 /// memory only.
+#[tactic(auto, using(crate::proofs::Joining::joining), unfolding(octree_specs::specs::NodeFile::image_of))]
 pub fn node_image(alloc: Global, grid: &Grid, cells: &[u64]) -> Result<NodeImage, AllocError>
     requires { AreCells grid.now.depth cells.now }
     ensures bytes { IfOk result (λ image. image.bytes.items ≡ image_of grid.now cells.now) }
@@ -36,16 +37,25 @@ pub fn node_image(alloc: Global, grid: &Grid, cells: &[u64]) -> Result<NodeImage
 }
 
 /// Adds the header of a grid's file.
+#[tactic(auto, using(crate::proofs::Joining::joining), unfolding(octree_specs::specs::NodeFile::header_of))]
 fn push_header(bytes: &mut Vec<u8>, grid: &Grid) -> Result<(), AllocError>
     ensures { OnOk result (bytes.new.items ≡ bytes.old.items ++ header_of grid.now) }
 {
     bytes.extend_from_slice(b"SVOCUBE1")?;
     bytes.extend_from_slice(&grid.depth().to_le_bytes())?;
     bytes.extend_from_slice(&0u32.to_le_bytes())?;
-    for component in &grid.origin() {
+    push_origin(bytes, &grid.origin())?;
+    bytes.extend_from_slice(&grid.cell().unsigned_abs().to_le_bytes())?;
+    Ok(())
+}
+
+/// Adds the components of an origin.
+fn push_origin(bytes: &mut Vec<u8>, origin: &[i64; 3]) -> Result<(), AllocError>
+    ensures { OnOk result (bytes.new.items ≡ bytes.old.items ++ flat_map (λ o. to_le_bytes w64 (cast_unsigned w64 o)) origin.now) }
+{
+    for component in origin {
         bytes.extend_from_slice(&component.to_le_bytes())?;
     }
-    bytes.extend_from_slice(&grid.cell().to_le_bytes())?;
     Ok(())
 }
 
@@ -60,6 +70,7 @@ fn push_words(bytes: &mut Vec<u8>, words: &[u64]) -> Result<(), AllocError>
 }
 
 /// Adds the trailer of a file with so many records and cells.
+#[tactic(auto, using(crate::proofs::Joining::joining), unfolding(octree_specs::specs::NodeFile::trailer_of))]
 fn push_trailer(bytes: &mut Vec<u8>, records: u64, cells: u64) -> Result<(), AllocError>
     ensures { OnOk result (bytes.new.items ≡ bytes.old.items ++ trailer_of records cells) }
 {
