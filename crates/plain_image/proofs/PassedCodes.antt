@@ -10,6 +10,7 @@ use Rattle.std.proofs.lemmas.List.Kept.{AllPairs-from_increasing}
 use Rattle.std.proofs.lemmas.Grind.{get_or_default_zero}
 use Rattle.octree_specs.specs.NodeWords.{is_nonempty}
 use Rattle.plain_image.specs.Passing.{HasPassed}
+use Rattle.plain_image.proofs.NodeCounts.{octal_positive}
 
 -- three bits are an octal digit
 pub octal_digits : (n : ℕ) → 2 ^ (3 * n) ≡ 8 ^ n
@@ -17,9 +18,6 @@ octal_digits zero = refl
 octal_digits (suc n) =
     let more : 3 * suc n ≡ 3 * n + 3 = omega arith in
     rw (more, pow-add 2 (3 * n) 3, octal_digits n, pow-suc 8 n)
-
-pub octal_positive : (n : ℕ) → 0 < 8 ^ n
-octal_positive n = one-le-pow n 8 (lit< tt)
 
 -- a node within so many cells is not high
 pub shallow_from : (height node : ℕ) → (node + 1) * 8 ^ height ≤ 2 ^ 36 → height ≤ 12
@@ -31,9 +29,9 @@ shallow_from height node inside =
     (λ low. low)
     (cases_lt 12 height)
 
--- a node's code is below the number of cells that the nodes up to it have
-pub node_within : (height node : ℕ) → node + 1 ≤ (node + 1) * 8 ^ height
-node_within height node =
+-- nor is its number great
+pub small_from : (height node : ℕ) → (node + 1) * 8 ^ height ≤ 2 ^ 36 → node < 2 ^ 36
+small_from height node inside =
     let positive : 1 ≤ 8 ^ height = octal_positive height in
     omega (arith, mul-le-mul_left (node + 1) positive)
 

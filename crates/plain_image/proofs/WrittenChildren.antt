@@ -62,10 +62,10 @@ no_children codes height node before =
     record { below = sym (append-nil before); own = refl; bits = refl; long = sym (add-zero (length before)); few = lit≤ tt; small = lit< tt }
 
 -- an empty child is passed over
-pub skip_empty : (codes : List ℕ) (height node count : ℕ) (before words children : List ℕ) (mask : ℕ)
+pub skip_empty : {codes : List ℕ} {height node count : ℕ} {before words children : List ℕ} {mask : ℕ}
     → AreWritten codes height node count before words children mask → is_nonempty codes height (8 * node + count) ≡ false
     → AreWritten codes height node (count + 1) before words children mask
-skip_empty codes height node count before words children mask written empty =
+skip_empty {codes} {height} {node} {count} {children = children} {mask = mask} written empty =
     let same : first_children codes height node (count + 1) ≡ first_children codes height node count =
       first_children_more codes height node count ∙ rw empty (append-nil (first_children codes height node count)) in
     let twice : 2 ^ (count + 1) ≡ 2 ^ count * 2 = rw (add-one count) (pow-suc 2 count) in
@@ -79,11 +79,11 @@ skip_empty codes height node count before words children mask written empty =
     }
 
 -- the words below a nonempty child are written, its own is kept for later, and its bit is set
-pub write_child : (codes : List ℕ) (height node count : ℕ) (before words children : List ℕ) (mask : ℕ)
+pub write_child : {codes : List ℕ} {height node count : ℕ} {before words children : List ℕ} {mask : ℕ}
     → AreWritten codes height node count before words children mask → is_nonempty codes height (8 * node + count) ≡ true → count < 8
     → AreWritten codes height node (count + 1) before (words ++ below_of codes height (8 * node + count) (length words))
     (children ++ word_of codes height (8 * node + count) (length words) ∷ []) (mask + 2 ^ count)
-write_child codes height node count before words children mask written nonempty octant =
+write_child {codes} {height} {node} {count} {before} {words} {children} {mask} written nonempty octant =
     let nodes : List ℕ = first_children codes height node count in
     let child : ℕ = 8 * node + count in
     let size : ℕ → ℕ = size_of codes height in
@@ -97,14 +97,9 @@ write_child codes height node count before words children mask written nonempty 
     let last : child % 8 ≡ count = omega arith in
     let twice : 2 ^ (count + 1) ≡ 2 ^ count * 2 = rw (add-one count) (pow-suc 2 count) in
     record {
-      below =
-        rw (more, places, long, written.below)
-        (flat_map_more (λ (c : Placed). below_of codes height c.node c.at) before (placed size start nodes) here);
-      own =
-        rw (more, places, long, written.own)
-        (sym (map_push (λ (c : Placed). word_of codes height c.node c.at) (placed size start nodes) here));
-      bits =
-        rw (more, sum_by_push (λ c. 2 ^ (c % 8)) nodes child, last, written.bits) refl;
+      below = rw (more, places, long, written.below) (flat_map_more (λ (c : Placed). below_of codes height c.node c.at) before (placed size start nodes) here);
+      own = rw (more, places, long, written.own) (sym (map_push (λ (c : Placed). word_of codes height c.node c.at) (placed size start nodes) here));
+      bits = rw (more, sum_by_push (λ c. 2 ^ (c % 8)) nodes child, last, written.bits) refl;
       long =
         let total : sum_by size (nodes ++ child ∷ []) ≡ sum_by size nodes + size child = sum_by_push size nodes child in
         rw (more, total, length-append words (below_of codes height child (length words))) (omega arith);
@@ -128,9 +123,10 @@ length-first_children codes height node count =
     omega (arith, length-filter (is_nonempty codes height) (range_with_len (8 * node) count), count_by-le-length (is_nonempty codes height) (range_with_len (8 * node) count), length-range_with_len (8 * node) count)
 
 -- there are no more words than cells before the next child
-pub words_fit : (codes : List ℕ) (lower height node count : ℕ) (before words children : List ℕ) (mask : ℕ)
-    → height ≡ suc lower → AreWritten codes lower node count before words children mask → length before ≤ node * 8 ^ height → length words ≤ (8 * node + count) * 8 ^ lower
-words_fit codes lower height node count before words children mask up written room =
+pub words_fit : {codes : List ℕ} {lower node count : ℕ} {before words children : List ℕ} {mask : ℕ}
+    → AreWritten codes lower node count before words children mask → (height : ℕ) → height ≡ suc lower → length before ≤ node * 8 ^ height
+    → length words ≤ (8 * node + count) * 8 ^ lower
+words_fit {codes} {lower} {node} {count} {before} {words} written height up room =
     let nodes : List ℕ = first_children codes lower node count in
     let all : sum_by (size_of codes lower) nodes ≤ length nodes * 8 ^ lower =
       sum_by-le (size_of codes lower) (8 ^ lower) nodes (λ k d within. size_of-le codes lower (get_or nodes k d)) in
@@ -139,12 +135,12 @@ words_fit codes lower height node count before words children mask up written ro
     let room' : length before ≤ node * (8 ^ lower * 8) = rw (up, pow-suc 8 lower) at room in
     omega arith
 
--- where all children were walked, as long as the list of words was short, it still is
-pub all_words_fit : (codes : List ℕ) (lower height node count limit : ℕ) (before words children : List ℕ) (mask : ℕ)
-    → height ≡ suc lower → count ≡ 8 → AreWritten codes lower node count before words children mask → length before ≤ node * 8 ^ height → (node + 1) * 8 ^ height ≤ limit → length words ≤ limit
-all_words_fit codes lower height node count limit before words children mask up last written room inside =
-    let fit : length words ≤ (8 * node + count) * 8 ^ lower = words_fit codes lower height node count before words children mask up written room in
-    let fit' : length words ≤ (8 * node + 8) * 8 ^ lower = rw last at fit in
+-- nor are there more than cells before the next node, once all children are walked
+pub all_words_fit : {codes : List ℕ} {lower node : ℕ} {before words children : List ℕ} {mask : ℕ}
+    → AreWritten codes lower node 8 before words children mask → (height limit : ℕ) → height ≡ suc lower → length before ≤ node * 8 ^ height
+    → (node + 1) * 8 ^ height ≤ limit → length words ≤ limit
+all_words_fit {lower = lower} {node = node} {words = words} written height limit up room inside =
+    let fit : length words ≤ (8 * node + 8) * 8 ^ lower = words_fit written height up room in
     let inside' : (node + 1) * (8 ^ lower * 8) ≤ limit = rw (up, pow-suc 8 lower) at inside in
     omega arith
 
@@ -157,34 +153,38 @@ unfolding below_of
 nothing_below codes [] = refl
 nothing_below codes (child ∷ rest) = nothing_below codes rest
 
--- just above the cells nothing is written, and the mask is the word
-pub above_cells : (codes : List ℕ) (lower height node at : ℕ) (before words children : List ℕ) (mask : ℕ)
-    → height ≡ 1 → lower ≡ 0 → AreWritten codes lower node 8 before words children mask
-    → (words ≡ before ++ below_of codes height node at) × (mask ≡ word_of codes height node at)
+-- the words of a node whose children are walked: those below it, from the place where they begin, and its own
+pub record IsWalked (codes : List ℕ) (height node at : ℕ) (before words : List ℕ) (word : ℕ) : Type 0 where
+  pub below : words ≡ before ++ below_of codes height node at
+  pub own : word ≡ word_of codes height node at
+
+-- a cell has no words
+pub at_cell : (codes : List ℕ) (height node at : ℕ) (before : List ℕ) → height ≡ 0 → IsWalked codes height node at before before 0
 unfolding below_of mask_of base_of
-above_cells codes lower height node at before words children mask up cells written =
+at_cell codes height node at before cell = rw cell (record { below = sym (append-nil before); own = refl })
+
+-- just above the cells nothing more is written, and the mask is the word
+pub above_cells : {codes : List ℕ} {lower node : ℕ} {before words children : List ℕ} {mask : ℕ}
+    → AreWritten codes lower node 8 before words children mask → (height at : ℕ) → height ≡ suc lower → lower ≡ 0 → IsWalked codes height node at before words mask
+unfolding below_of mask_of base_of
+above_cells {codes} {lower} {node} {before} {words} {children} {mask} written height at up cells =
     let low : AreWritten codes 0 node 8 before words children mask = rw cells at written in
-    rw up
-    (low.below ∙ ap (λ more. before ++ more) (nothing_below codes (placed (size_of codes 0) (length before) (first_children codes 0 node 8))),
-     low.bits ∙ rw (all_children codes 0 node) (omega arith))
+    rw (up, cells)
+    (record {
+      below = low.below ∙ ap (λ more. before ++ more) (nothing_below codes (placed (size_of codes 0) (length before) (first_children codes 0 node 8)));
+      own = low.bits ∙ rw (all_children codes 0 node) (omega arith)
+    })
 
 -- higher up the children's words are written after those below them, and the base is where they begin
-pub above_nodes : (codes : List ℕ) (lower height node at : ℕ) (before words children : List ℕ) (mask : ℕ)
-    → height ≡ suc lower → 0 < lower → length before ≡ at → AreWritten codes lower node 8 before words children mask
-    → (words ++ children ≡ before ++ below_of codes height node at) × (mask + 256 * length words ≡ word_of codes height node at)
+pub above_nodes : {codes : List ℕ} {lower node : ℕ} {before words children : List ℕ} {mask : ℕ}
+    → AreWritten codes lower node 8 before words children mask → (height at : ℕ) → height ≡ suc lower → 0 < lower → length before ≡ at
+    → IsWalked codes height node at before (words ++ children) (mask + 256 * length words)
 unfolding below_of mask_of base_of
-above_nodes codes zero height node at before words children mask up positive start written = absurd (omega arith)
-above_nodes codes (suc lower) height node at before words children mask up positive start written =
+above_nodes {lower = zero} written height at up positive start = absurd (omega arith)
+above_nodes {codes} {lower = suc lower} {node} {before} written height at up positive start =
     let nodes : List ℕ = first_children codes (suc lower) node 8 in
     rw (up, ← start)
-    (rw (all_children codes (suc lower) node, written.below, written.own) (append_assoc before (words_below codes (suc lower) (length before) nodes) (words_at codes (suc lower) (length before) nodes)),
-     rw (all_children codes (suc lower) node, written.bits, written.long) refl)
-
--- the word of a cell
-pub cell_word : (codes : List ℕ) (height node at : ℕ) → height ≡ 0 → 0 ≡ word_of codes height node at
-unfolding mask_of base_of
-cell_word codes height node at cell = rw cell refl
-
-pub below_cell : (codes : List ℕ) (height node at : ℕ) → height ≡ 0 → below_of codes height node at ≡ []
-unfolding below_of
-below_cell codes height node at cell = rw cell refl
+    (record {
+      below = rw (all_children codes (suc lower) node, written.below, written.own) (append_assoc before (words_below codes (suc lower) (length before) nodes) (words_at codes (suc lower) (length before) nodes));
+      own = rw (all_children codes (suc lower) node, written.bits, written.long) refl
+    })

@@ -1,10 +1,10 @@
 //! Octree node files, made in memory.
 #![tactic(auto)]
 
-mod file_parts;
+mod layout;
 mod traversal;
 
-pub use file_parts::{NodeImage, node_image};
+pub use layout::{NodeImage, node_image};
 
 #[cfg(test)]
 mod tests {

@@ -5,7 +5,7 @@ use Rattle.std.specs.Int.{w64, cast_unsigned, to_le_bytes}
 use Rattle.std.proofs.Math.Facts.{of_z-to_z, Fits-of_z}
 use Rattle.std.proofs.Common.{to_z, SFits}
 use Rattle.std.proofs.lemmas.List.{take_more, flat_map_more}
-use Rattle.plain_image.proofs.file_parts.push_origin.Goals as goal
+use Rattle.plain_image.proofs.layout.push_origin.Goals as goal
 
 pub loop-component-preserved : goal.loop-component-preserved
 loop-component-preserved c =

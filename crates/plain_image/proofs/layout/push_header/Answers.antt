@@ -9,7 +9,7 @@ use Rattle.std.specs.List.{flat_map}
 use Rattle.std.specs.Int.{w32, w64, cast_unsigned, to_le_bytes}
 use Rattle.octree_specs.specs.NodeFile.{header_of}
 use Rattle.plain_image.proofs.Joining.{five_pieces}
-use Rattle.plain_image.proofs.file_parts.push_header.Goals as goal
+use Rattle.plain_image.proofs.layout.push_header.Goals as goal
 
 pub returns : goal.returns
 unfolding header_of
