@@ -39,9 +39,9 @@ length-below_of codes (suc (suc height)) node at =
     let size : ℕ → ℕ = size_of codes (suc height) in
     let children : List ℕ = children_of codes (suc height) node in
     let under : length (flat_map (λ (child : Placed). below_of codes (suc height) child.node child.at) (placed size at children)) ≡ sum_by size children =
-      length-flat_map-placed (below_of codes (suc height)) size (length-below_of codes (suc height)) at children in
+    length-flat_map-placed (below_of codes (suc height)) size (length-below_of codes (suc height)) at children in
     let own : length (map (λ (child : Placed). word_of codes (suc height) child.node child.at) (placed size at children)) ≡ length children =
-      length-map (placed size at children) (λ (child : Placed). word_of codes (suc height) child.node child.at) ∙ length-placed size at children in
+    length-map (placed size at children) (λ (child : Placed). word_of codes (suc height) child.node child.at) ∙ length-placed size at children in
     length-append (flat_map (λ (child : Placed). below_of codes (suc height) child.node child.at) (placed size at children)) (map (λ (child : Placed). word_of codes (suc height) child.node child.at) (placed size at children))
     ∙ rw (sum_by-suc size children) (omega arith)
 
@@ -59,9 +59,9 @@ size_of-le_inner codes (suc height) node =
     let children : List ℕ = children_of codes (suc height) node in
     let most : ℕ = 8 ^ suc height - 1 in
     let each : (child : ℕ) → 1 + size child ≤ most =
-      λ child. let less : size child + 2 ≤ 8 ^ suc height = size_of-le_inner codes height child in omega arith in
+    λ child. let less : size child + 2 ≤ 8 ^ suc height = size_of-le_inner codes height child in omega arith in
     let all : sum_by (λ child. 1 + size child) children ≤ length children * most =
-      sum_by-le (λ child. 1 + size child) most children (λ k d within. each (get_or children k d)) in
+    sum_by-le (λ child. 1 + size child) most children (λ k d within. each (get_or children k d)) in
     let eight : length children * most ≤ 8 * most = mul-le-mul_right most (length-children_of codes (suc height) node) in
     let power : 8 ^ suc (suc height) ≡ 8 ^ suc height * 8 = pow-suc 8 (suc height) in
     let positive : 0 < 8 ^ suc height = octal_positive (suc height) in

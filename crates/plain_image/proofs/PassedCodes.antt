@@ -24,8 +24,8 @@ pub shallow_from : (height node : ℕ) → (node + 1) * 8 ^ height ≤ 2 ^ 36 �
 shallow_from height node inside =
     ⊎_elim
     (λ (high : 12 < height).
-      let more : 8 ^ 13 ≤ 8 ^ height = pow-le-pow_right {n = 8} (lit< tt) {i = 13} {j = height} high in
-      absurd (omega arith))
+    let more : 8 ^ 13 ≤ 8 ^ height = pow-le-pow_right {n = 8} (lit< tt) {i = 13} {j = height} high in
+    absurd (omega arith))
     (λ low. low)
     (cases_lt 12 height)
 
@@ -66,11 +66,11 @@ ordered : (codes : List ℕ) (i j : ℕ) → IsStrictlyIncreasing codes → i �
 ordered codes i j ascending le within =
     ⊎_elim
     (λ early.
-      let less : get_or codes i 0 < get_or codes j 0 = AllPairs-from_increasing codes ascending i j 0 early within in
-      omega arith)
+    let less : get_or codes i 0 < get_or codes j 0 = AllPairs-from_increasing codes ascending i j 0 early within in
+    omega arith)
     (λ (late : j ≤ i).
-      let same : i ≡ j = omega arith in
-      rw same (omega arith))
+    let same : i ≡ j = omega arith in
+    rw same (omega arith))
     (cases_lt i j)
 
 -- if the first code that was not passed is not under the node, then none is
@@ -82,15 +82,15 @@ empty_from codes height node place ascending passed apart =
     (λ i within. ne_eqb (get_or codes i 0 / 8 ^ height) node (λ under.
     ⊎_elim
     (λ early.
-      let before : get_or codes i 0 < node * 8 ^ height = passed.before i early in
-      let least : node * 8 ^ height ≤ get_or codes i 0 = least_under height node (get_or codes i 0) under in
-      absurd (omega arith))
+    let before : get_or codes i 0 < node * 8 ^ height = passed.before i early in
+    let least : node * 8 ^ height ≤ get_or codes i 0 = least_under height node (get_or codes i 0) under in
+    absurd (omega arith))
     (λ late.
-      let here : place < length codes = omega arith in
-      let most : get_or codes i 0 < (node + 1) * 8 ^ height = below_next height node (get_or codes i 0) under in
-      let least : node * 8 ^ height ≤ get_or codes place 0 = passed.after place (omega arith) here in
-      let order : get_or codes place 0 ≤ get_or codes i 0 = ordered codes place i ascending late within in
-      apart here (is_under height node (get_or codes place 0) least (omega arith)))
+    let here : place < length codes = omega arith in
+    let most : get_or codes i 0 < (node + 1) * 8 ^ height = below_next height node (get_or codes i 0) under in
+    let least : node * 8 ^ height ≤ get_or codes place 0 = passed.after place (omega arith) here in
+    let order : get_or codes place 0 ≤ get_or codes i 0 = ordered codes place i ascending late within in
+    apart here (is_under height node (get_or codes place 0) least (omega arith)))
     (cases_lt i place))))
 
 -- the first code that was not passed tells whether the node is nonempty
@@ -108,15 +108,15 @@ pub passed_empty : (codes : List ℕ) (height node place : ℕ) → HasPassed co
 passed_empty codes height node place passed empty =
     record {
       before = λ k early.
-      let before : get_or codes k 0 < node * 8 ^ height = passed.before k early in
-      omega arith;
+          let before : get_or codes k 0 < node * 8 ^ height = passed.before k early in
+          omega arith;
       after = λ k late within.
-      ⊎_elim
-      (λ less.
-        let least : node * 8 ^ height ≤ get_or codes k 0 = passed.after k late within in
-        absurd (both_ways (is_nonempty codes height node) empty (nonempty_from codes height node k within (is_under height node (get_or codes k 0) least less))))
-      (λ enough. enough)
-      (cases_lt (get_or codes k 0) ((node + 1) * 8 ^ height))
+          ⊎_elim
+          (λ less.
+          let least : node * 8 ^ height ≤ get_or codes k 0 = passed.after k late within in
+          absurd (both_ways (is_nonempty codes height node) empty (nonempty_from codes height node k within (is_under height node (get_or codes k 0) least less))))
+          (λ enough. enough)
+          (cases_lt (get_or codes k 0) ((node + 1) * 8 ^ height));
     }
 
 -- a cell of the set is the first code that was not passed
@@ -130,13 +130,13 @@ cell_is_first codes node place ascending passed nonempty =
     let same : found.1 / 1 ≡ node = eqb-true (found.1 / 8 ^ 0) node found.4 in
     ⊎_elim
     (λ early.
-      let before : get_or codes k 0 < node * 1 = passed.before k early in
-      absurd (omega arith))
+    let before : get_or codes k 0 < node * 1 = passed.before k early in
+    absurd (omega arith))
     (λ late.
-      let here : place < length codes = omega arith in
-      let least : node * 1 ≤ get_or codes place 0 = passed.after place (omega arith) here in
-      let order : get_or codes place 0 ≤ get_or codes k 0 = ordered codes place k ascending late within in
-      (here, omega arith))
+    let here : place < length codes = omega arith in
+    let least : node * 1 ≤ get_or codes place 0 = passed.after place (omega arith) here in
+    let order : get_or codes place 0 ≤ get_or codes k 0 = ordered codes place k ascending late within in
+    (here, omega arith))
     (cases_lt k place)
 
 -- a cell of the set is passed with its code
@@ -148,11 +148,11 @@ passed_cell codes node place ascending passed nonempty =
     let read : get_or codes place 0 ≡ node = first.1 in
     record {
       before = λ k early.
-      let order : get_or codes k 0 ≤ get_or codes place 0 = ordered codes k place ascending (omega arith) here in
-      omega arith;
+          let order : get_or codes k 0 ≤ get_or codes place 0 = ordered codes k place ascending (omega arith) here in
+          omega arith;
       after = λ k late within.
-      let order : get_or codes place 0 < get_or codes k 0 = AllPairs-from_increasing codes ascending place k 0 (omega arith) within in
-      omega arith
+          let order : get_or codes place 0 < get_or codes k 0 = AllPairs-from_increasing codes ascending place k 0 (omega arith) within in
+          omega arith;
     }
 
 -- before the first child is where its parent begins

@@ -67,7 +67,7 @@ pub skip_empty : {codes : List ℕ} {height node count : ℕ} {before words chil
     → AreWritten codes height node (count + 1) before words children mask
 skip_empty {codes} {height} {node} {count} {children = children} {mask = mask} written empty =
     let same : first_children codes height node (count + 1) ≡ first_children codes height node count =
-      first_children_more codes height node count ∙ rw empty (append-nil (first_children codes height node count)) in
+    first_children_more codes height node count ∙ rw empty (append-nil (first_children codes height node count)) in
     let twice : 2 ^ (count + 1) ≡ 2 ^ count * 2 = rw (add-one count) (pow-suc 2 count) in
     record {
       below = rw same written.below;
@@ -75,7 +75,7 @@ skip_empty {codes} {height} {node} {count} {children = children} {mask = mask} w
       bits = rw same written.bits;
       long = rw same written.long;
       few = let few : length children ≤ count = written.few in omega arith;
-      small = let small : mask < 2 ^ count = written.small in omega arith
+      small = let small : mask < 2 ^ count = written.small in omega arith;
     }
 
 -- the words below a nonempty child are written, its own is kept for later, and its bit is set
@@ -101,12 +101,12 @@ write_child {codes} {height} {node} {count} {before} {words} {children} {mask} w
       own = rw (more, places, long, written.own) (sym (map_push (λ (c : Placed). word_of codes height c.node c.at) (placed size start nodes) here));
       bits = rw (more, sum_by_push (λ c. 2 ^ (c % 8)) nodes child, last, written.bits) refl;
       long =
-        let total : sum_by size (nodes ++ child ∷ []) ≡ sum_by size nodes + size child = sum_by_push size nodes child in
-        rw (more, total, length-append words (below_of codes height child (length words))) (omega arith);
+          let total : sum_by size (nodes ++ child ∷ []) ≡ sum_by size nodes + size child = sum_by_push size nodes child in
+          rw (more, total, length-append words (below_of codes height child (length words))) (omega arith);
       few =
-        let few : length children ≤ count = written.few in
-        rw (length_push children (word_of codes height child (length words))) (omega arith);
-      small = let small : mask < 2 ^ count = written.small in omega arith
+          let few : length children ≤ count = written.few in
+          rw (length_push children (word_of codes height child (length words))) (omega arith);
+      small = let small : mask < 2 ^ count = written.small in omega arith;
     }
 
 -- a bit above all others is added
@@ -129,7 +129,7 @@ pub words_fit : {codes : List ℕ} {lower node count : ℕ} {before words childr
 words_fit {codes} {lower} {node} {count} {before} {words} written height up room =
     let nodes : List ℕ = first_children codes lower node count in
     let all : sum_by (size_of codes lower) nodes ≤ length nodes * 8 ^ lower =
-      sum_by-le (size_of codes lower) (8 ^ lower) nodes (λ k d within. size_of-le codes lower (get_or nodes k d)) in
+    sum_by-le (size_of codes lower) (8 ^ lower) nodes (λ k d within. size_of-le codes lower (get_or nodes k d)) in
     let few : length nodes * 8 ^ lower ≤ count * 8 ^ lower = mul-le-mul_right (8 ^ lower) (length-first_children codes lower node count) in
     let long : length words ≡ length before + sum_by (size_of codes lower) nodes = written.long in
     let room' : length before ≤ node * (8 ^ lower * 8) = rw (up, pow-suc 8 lower) at room in
@@ -172,7 +172,7 @@ above_cells {codes} {lower} {node} {before} {words} {children} {mask} written he
     rw (up, cells)
     (record {
       below = low.below ∙ ap (λ more. before ++ more) (nothing_below codes (placed (size_of codes 0) (length before) (first_children codes 0 node 8)));
-      own = low.bits ∙ rw (all_children codes 0 node) (omega arith)
+      own = low.bits ∙ rw (all_children codes 0 node) (omega arith);
     })
 
 -- higher up the children's words are written after those below them, and the base is where they begin
@@ -186,5 +186,5 @@ above_nodes {codes} {lower = suc lower} {node} {before} written height at up pos
     rw (up, ← start)
     (record {
       below = rw (all_children codes (suc lower) node, written.below, written.own) (append_assoc before (words_below codes (suc lower) (length before) nodes) (words_at codes (suc lower) (length before) nodes));
-      own = rw (all_children codes (suc lower) node, written.bits, written.long) refl
+      own = rw (all_children codes (suc lower) node, written.bits, written.long) refl;
     })

@@ -27,7 +27,10 @@ pub fn record_words(alloc: Global, codes: &[u64], depth: u32) -> Result<Vec<u64>
         passed: 0,
     };
     let root = walk(codes, &mut progress, depth, 0)?;
-    let Progress { mut words, passed: _ } = progress;
+    let Progress {
+        mut words,
+        passed: _,
+    } = progress;
     words.push(root)?;
     Ok(words)
 }

@@ -19,6 +19,16 @@ returns c =
     let small : c.args.grid.now.cell ≤ 2 ^ 32 = omega arith in
     let side : c.unsigned_abs.result ≡ c.args.grid.now.cell = rw c.cell.ensures.value at c.unsigned_abs.ensures.value ∙ grind (arith, ints, to_z-of_z) in
     c.in_ok-extend_from_slice-4.ensures.items
-    ∙ rw (c.in_ok-push_origin.ensures, c.in_ok-extend_from_slice-3.ensures.items, c.in_ok-extend_from_slice-2.ensures.items, c.in_ok-extend_from_slice.ensures.items,
-    c.to_le_bytes.ensures, c.to_le_bytes-2.ensures, c.to_le_bytes-3.ensures, c.depth.ensures.value, c.origin.ensures.value, side)
+    ∙ rw (
+      c.in_ok-push_origin.ensures,
+      c.in_ok-extend_from_slice-3.ensures.items,
+      c.in_ok-extend_from_slice-2.ensures.items,
+      c.in_ok-extend_from_slice.ensures.items,
+      c.to_le_bytes.ensures,
+      c.to_le_bytes-2.ensures,
+      c.to_le_bytes-3.ensures,
+      c.depth.ensures.value,
+      c.origin.ensures.value,
+      side,
+    )
     (five_pieces c.args.bytes.now.items (codes "SVOCUBE1") (to_le_bytes w32 c.args.grid.now.depth) (to_le_bytes w32 0) (flat_map (λ o. to_le_bytes w64 (cast_unsigned w64 o)) c.args.grid.now.origin) (to_le_bytes w64 c.args.grid.now.cell))

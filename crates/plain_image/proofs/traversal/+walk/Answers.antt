@@ -30,9 +30,10 @@ returns-then-height-eq0-clause-to t c =
 
 pub loop-octant-init : goal.loop-octant-init
 loop-octant-init t c =
-    let up : c.args.height ≡ suc (c.args.height - 1) = omega (arith, c.if-height-eq0.false) in
-    (rw c.new-children.ensures (no_children c.args.codes.now (c.args.height - 1) c.args.node c.args.progress.now.words.items),
-     passed_before_children c.args.codes.now (c.args.height - 1) c.args.height c.args.node c.args.progress.now.passed up c.requires.from)
+    let up : c.args.height ≡ suc (c.args.height - 1) = omega (arith, c.if-height-eq0.false) in (
+      rw c.new-children.ensures (no_children c.args.codes.now (c.args.height - 1) c.args.node c.args.progress.now.words.items),
+      passed_before_children c.args.codes.now (c.args.height - 1) c.args.height c.args.node c.args.progress.now.passed up c.requires.from,
+    )
 
 pub overflow_mul-child : goal.overflow_mul-child
 overflow_mul-child t c = omega (arith, small_from c.args.height c.args.node c.requires.inside)
@@ -49,13 +50,16 @@ walk-requires t c =
     let child : ℕ = 8 * c.args.node + c.loop-octant.octant in
     let up : c.args.height ≡ suc lower = omega (arith, c.if-height-eq0.false) in
     let inside : (child + 1) * 8 ^ lower ≤ 2 ^ 36 =
-      child_inside lower c.args.height c.args.node c.loop-octant.octant (2 ^ 36) up c.loop-octant-test.true c.requires.inside in
+    child_inside lower c.args.height c.args.node c.loop-octant.octant (2 ^ 36) up c.loop-octant-test.true c.requires.inside in
     let start : length c.args.progress.now.words.items ≤ c.args.node * 8 ^ c.args.height = rw c.args.progress.now.words.ok.0 at c.requires.room in
     let room : length c.loop-octant.progress.words.items ≤ child * 8 ^ lower = words_fit c.loop-octant.invariant.0 c.args.height up start in
-    let nonempty : is_nonempty c.args.codes.now lower child ≡ true = sym c.if-is_under.ensures in
-    (omega (arith, c.decreases, c.if-height-eq0.false),
-     (c.requires.ascending,
-     (inside, (rw c.loop-octant.progress.words.ok.0 room, (c.loop-octant.invariant.1, λ cell. subst (λ h. is_nonempty c.args.codes.now h child ≡ true) cell nonempty)))))
+    let nonempty : is_nonempty c.args.codes.now lower child ≡ true = sym c.if-is_under.ensures in (
+      omega (arith, c.decreases, c.if-height-eq0.false),
+      (
+        c.requires.ascending,
+        (inside, (rw c.loop-octant.progress.words.ok.0 room, (c.loop-octant.invariant.1, λ cell. subst (λ h. is_nonempty c.args.codes.now h child ≡ true) cell nonempty))),
+      ),
+    )
 
 pub loop-octant-preserved : goal.loop-octant-preserved
 loop-octant-preserved t c =
@@ -64,19 +68,22 @@ loop-octant-preserved t c =
     let child : ℕ = 8 * c.args.node + octant in
     let next : child + 1 ≡ 8 * c.args.node + (octant + 1) = omega arith in
     elim c.if-is_under.branch [
-      then-is_under+in_ok-word w ↦
-        let nonempty : is_nonempty c.args.codes.now lower child ≡ true = sym w.if-is_under.ensures in
-        let bit = set_bit c.loop-octant.mask octant c.loop-octant.invariant.0.small (omega (arith, c.loop-octant-test.true)) in
-        rw (w.progress-is, w.mask-is, w.children-is)
-        (rw (bit, w.in_ok-word.ensures.below, w.push.ensures.items, w.in_ok-word.ensures.own, c.loop-octant.progress.words.ok.0)
-        (write_child c.loop-octant.invariant.0 nonempty c.loop-octant-test.true),
-         subst (λ n. HasPassed c.args.codes.now w.walk.new.progress.passed (n * 8 ^ lower)) next w.in_ok-word.ensures.to)
-    | else-is_under w ↦
-        let empty : is_nonempty c.args.codes.now lower child ≡ false = sym w.if-is_under.ensures in
-        rw (w.progress-is, w.mask-is, w.children-is)
-        (skip_empty c.loop-octant.invariant.0 empty,
-         subst (λ n. HasPassed c.args.codes.now c.loop-octant.progress.passed (n * 8 ^ lower)) next
-         (passed_empty c.args.codes.now lower child c.loop-octant.progress.passed c.loop-octant.invariant.1 empty)) ]
+      | then-is_under+in_ok-word w ↦
+          let nonempty : is_nonempty c.args.codes.now lower child ≡ true = sym w.if-is_under.ensures in
+          let bit = set_bit c.loop-octant.mask octant c.loop-octant.invariant.0.small (omega (arith, c.loop-octant-test.true)) in
+          rw (w.progress-is, w.mask-is, w.children-is) (
+            rw (bit, w.in_ok-word.ensures.below, w.push.ensures.items, w.in_ok-word.ensures.own, c.loop-octant.progress.words.ok.0)
+                (write_child c.loop-octant.invariant.0 nonempty c.loop-octant-test.true),
+            subst (λ n. HasPassed c.args.codes.now w.walk.new.progress.passed (n * 8 ^ lower)) next w.in_ok-word.ensures.to,
+          )
+      | else-is_under w ↦
+          let empty : is_nonempty c.args.codes.now lower child ≡ false = sym w.if-is_under.ensures in
+          rw (w.progress-is, w.mask-is, w.children-is) (
+            skip_empty c.loop-octant.invariant.0 empty,
+            subst (λ n. HasPassed c.args.codes.now c.loop-octant.progress.passed (n * 8 ^ lower)) next
+                (passed_empty c.args.codes.now lower child c.loop-octant.progress.passed c.loop-octant.invariant.1 empty),
+          )
+    ]
 
 pub returns-then-height-eq1-clause-below : goal.returns-then-height-eq1-clause-below
 returns-then-height-eq1-clause-below t c =
@@ -93,7 +100,7 @@ overflow_mul-result t c =
     let last : c.loop-octant.octant ≡ 8 = omega arith in
     let start : length c.args.progress.now.words.items ≤ c.args.node * 8 ^ c.args.height = rw c.args.progress.now.words.ok.0 at c.requires.room in
     let base : length c.loop-octant.progress.words.items ≤ 2 ^ 36 =
-      all_words_fit (rw last at c.loop-octant.invariant.0) c.args.height (2 ^ 36) (omega (arith, c.if-height-eq0.false)) start c.requires.inside in
+    all_words_fit (rw last at c.loop-octant.invariant.0) c.args.height (2 ^ 36) (omega (arith, c.if-height-eq0.false)) start c.requires.inside in
     let same : c.len-base.result ≡ length c.loop-octant.progress.words.items = c.len-base.ensures ∙ c.loop-octant.progress.words.ok.0 in
     omega arith
 
@@ -102,7 +109,7 @@ overflow_add-result t c =
     let last : c.loop-octant.octant ≡ 8 = omega arith in
     let start : length c.args.progress.now.words.items ≤ c.args.node * 8 ^ c.args.height = rw c.args.progress.now.words.ok.0 at c.requires.room in
     let base : length c.loop-octant.progress.words.items ≤ 2 ^ 36 =
-      all_words_fit (rw last at c.loop-octant.invariant.0) c.args.height (2 ^ 36) (omega (arith, c.if-height-eq0.false)) start c.requires.inside in
+    all_words_fit (rw last at c.loop-octant.invariant.0) c.args.height (2 ^ 36) (omega (arith, c.if-height-eq0.false)) start c.requires.inside in
     let same : c.len-base.result ≡ length c.loop-octant.progress.words.items = c.len-base.ensures ∙ c.loop-octant.progress.words.ok.0 in
     let small : c.loop-octant.mask < 2 ^ 8 = rw last at c.loop-octant.invariant.0.small in
     omega arith
