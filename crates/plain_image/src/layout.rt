@@ -10,6 +10,13 @@ use crate::traversal::record_words;
 use std::alloc::{AllocError, Global};
 use svo_base::Grid;
 
+/// The bytes of a file's header, of each of its records and of its trailer.
+const HEADER_BYTES: usize = 48;
+
+const RECORD_BYTES: usize = 8;
+
+const TRAILER_BYTES: usize = 32;
+
 /// A node file in memory.
 #[derive(Drop)]
 pub struct NodeImage {
@@ -29,7 +36,8 @@ pub fn node_image(alloc: Global, grid: &Grid, cells: &[u64]) -> Result<NodeImage
 {
     let words = record_words(alloc, cells, grid.depth())?;
     let records = words.len() as u64;
-    let mut bytes = Vec::new(alloc);
+    let length = HEADER_BYTES + RECORD_BYTES * words.len() + TRAILER_BYTES;
+    let mut bytes = Vec::with_capacity(alloc, length)?;
     push_header(&mut bytes, grid)?;
     push_words(&mut bytes, words.as_slice())?;
     push_trailer(&mut bytes, records, cells.len() as u64)?;
