@@ -1,0 +1,4 @@
+pub mod NodeCounts
+pub mod PassedCodes
+pub mod WrittenChildren
+pub mod Joining
