@@ -1,2 +1,4 @@
 pub mod Coordinates
 pub mod Sides
+pub mod Blocks
+pub mod Spreads

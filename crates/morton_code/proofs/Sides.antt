@@ -1,7 +1,7 @@
 -- How far the cubes of a level reach.
 use Rattle.std.proofs.Common.{◌%◌, [], ◌∷◌, All, refl, get_or, ◌≡◌, ℕ, ◌+◌, ◌-◌, ◌*◌, ◌^◌, ◌<◌, ◌≤◌, ℤ, pos, ◌+ℤ◌, ◌≤ℤ◌, unsigned_abs, subst, sym, ap, arith}
 use Rattle.std.proofs.lemmas.Int.{ints, to_z_pos, to_z-of_z, fits_signed_from_abs}
-use Rattle.svo_base.specs.GridShape.{GridShape}
+use Rattle.svo_base.specs.GridShape.{GridShape, IsGrid}
 use Rattle.svo_base.specs.declared.shapes.Cube.{Cube}
 use Rattle.octree_specs.specs.NodeCube.{coordinate_of, side_of, node_cube}
 use Rattle.std.proofs.lemmas.List.Elements.{All-cons, All-nil}
@@ -79,3 +79,7 @@ planes_near x y z p q r =
     let near : ℤ → Type 0 = λ plane. unsigned_abs plane ≤ 2 ^ 33 in
     let kept : (plane : ℤ) → near plane → near (to_z w64 (of_z w64 plane)) = λ plane h. subst near (sym (plane_kept plane h)) h in
     all_of_three near (to_z w64 (of_z w64 x)) (to_z w64 (of_z w64 y)) (to_z w64 (of_z w64 z)) (kept x p) (kept y q) (kept z r)
+
+-- a level of a grid is at most 20
+pub is_shallow : (grid : GridShape) (level : ℕ) → IsGrid grid → level ≤ grid.depth → level ≤ 20
+is_shallow grid level limits within = let shallow = limits.shallow in omega arith

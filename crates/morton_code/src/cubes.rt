@@ -1,10 +1,11 @@
 //! The cubes of nodes.
 
 ghost use Rattle.std.specs.Prelude.{◌≡◌, ◌+◌, ◌*◌, ◌^◌, ◌<◌, ◌≤◌, [], ◌∷◌, All, unsigned_abs};
-ghost use Rattle.octree_specs.specs.NodeCube.{coordinate_of, side_of, node_cube};
+ghost use Rattle.octree_specs.specs.NodeCube.{side_of, node_cube};
 ghost use Rattle.octree_specs.specs.Meeting.{HasPlanes};
 ghost use Rattle.morton_code.specs.Cubes.{IsUpright, plane_at};
 
+use crate::codes::decode;
 use svo_base::{Cube, Grid};
 
 /// The closed cube of a node: of its level, counted from the root's 0, and of its Morton code.
@@ -17,9 +18,10 @@ pub fn cube_of(grid: &Grid, level: u32, code: u64) -> Cube
 {
     let origin = grid.origin();
     let side = side(grid, level);
-    let x = offset(side, 0, level, code);
-    let y = offset(side, 1, level, code);
-    let z = offset(side, 2, level, code);
+    let (x, y, z) = decode(code);
+    let x = offset(side, x, level);
+    let y = offset(side, y, level);
+    let z = offset(side, z, level);
     Cube {
         lo: corner(&origin, x, y, z),
         hi: corner(&origin, x + side, y + side, z + side),
@@ -36,27 +38,13 @@ fn side(grid: &Grid, level: u32) -> u64
 }
 
 /// How far a node's cube is from the grid's lower corner along an axis.
-fn offset(side: u64, axis: u32, level: u32, code: u64) -> u64
-    requires axis { axis < 3 }
-    requires level { level ≤ 20 }
+fn offset(side: u64, coordinate: u32, level: u32) -> u64
+    requires coordinate { coordinate < 2 ^ level }
     requires narrow { side * 2 ^ level ≤ 2 ^ 32 }
-    ensures value { result ≡ side * coordinate_of axis level code }
+    ensures value { result ≡ side * coordinate }
     ensures within { result + side ≤ 2 ^ 32 }
 {
-    side * coordinate(axis, level, code)
-}
-
-/// The coordinate of a code of so many digits along an axis.
-fn coordinate(axis: u32, digits: u32, code: u64) -> u64
-    requires axis { axis < 3 }
-    requires digits { digits ≤ 20 }
-    ensures value { result ≡ coordinate_of axis digits code }
-    ensures below { result < 2 ^ digits }
-{
-    if digits == 0 {
-        return 0;
-    }
-    ((code >> axis) & 1) + 2 * coordinate(axis, digits - 1, code / 8)
+    side * u64::from(coordinate)
 }
 
 /// The corner at these distances from the grid's lower corner.
