@@ -1,3 +1,5 @@
 pub mod Digits
+pub mod FilledCells
 pub mod NumberLists
+pub mod Plans
 pub mod Puts

@@ -32,13 +32,23 @@ pub record Plans (job : BuildWords) (input : Change) (grid : GridShape) (cells :
   pub end : IsAtEnd input.after
   pub meaning : IfSome input.before (λ text. AreFilledBy text grid cells)
 
--- the output grew by the node file, and the line counts its cells and records
-pub record Finished (job : BuildWords) (input out err : Change) : Type 0 where
+-- the output grew by the node file of so many cells and records, built in so many parts
+pub record Built (job : BuildWords) (input out : Change) (cell_count record_count part_count : ℕ) : Type 0 where
   pub grid : GridShape
   pub cells : List ℕ
   pub plan : Plans job input grid cells
   pub file : Grew out (image_of grid cells)
-  pub line : Says err (built_line (length cells) (length (words_of cells grid.depth)) 1)
+  pub cells_are : cell_count ≡ length cells
+  pub records_are : record_count ≡ length (words_of cells grid.depth)
+  pub parts_are : part_count ≡ 1
+
+-- the node file was put out, and the line counts its cells and records
+pub record Finished (job : BuildWords) (input out err : Change) : Type 0 where
+  pub cell_count : ℕ
+  pub record_count : ℕ
+  pub part_count : ℕ
+  pub built : Built job input out cell_count record_count part_count
+  pub line : Says err (built_line cell_count record_count part_count)
 
 -- the output grew by some front of the node file
 pub record CutOff (job : BuildWords) (input out : Change) : Type 0 where
@@ -54,12 +64,16 @@ pub record Refused (kind : InputKind) (place : ℕ) (input : Change) : Type 0 wh
   pub start : place ≡ 0
   pub cause : IfSome input.before IsNotPlain
 
--- a run of `build`: what each of its answers means, and which answer a faultless run gives
-pub record BuildRun (job : BuildWords) (input out err : Change) (status : Status) : Type 0 where
-  pub finished : status ≡ Done → Finished job input out err
+-- what each answer of a build means, and which one a faultless run gives
+pub record BuildMeans (job : BuildWords) (input out : Change) (status : Status) : Type 0 where
   pub cut_off : status ≡ Device Write → CutOff job input out
   pub refused : (kind : InputKind) (place : ℕ) → status ≡ Input kind place → Refused kind place input
   pub accepts : (grid : GridShape) (text : List ℕ) (mesh : Mesh) → grid_of_words job ≡ Ok grid → input.before ≡ Some text → IsPlainText text mesh
       → IsFaultless input → IsFaultless out → (status ≡ Done) ⊎ (status ≡ Memory)
   pub rejects : (grid : GridShape) (text : List ℕ) → grid_of_words job ≡ Ok grid → input.before ≡ Some text → IsNotPlain text
       → IsFaultless input → (status ≡ Input NotPlain 0) ⊎ (status ≡ Memory)
+
+-- a run of `build`
+pub record BuildRun (job : BuildWords) (input out err : Change) (status : Status) : Type 0 where
+  pub finished : status ≡ Done → Finished job input out err
+  pub means : BuildMeans job input out status

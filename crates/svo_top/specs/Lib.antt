@@ -4,5 +4,6 @@ pub mod Codes
 pub mod Endings
 pub mod Form
 pub mod Lines
+pub mod Planning
 pub mod Ranges
 pub mod Reading

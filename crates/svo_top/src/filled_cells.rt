@@ -5,16 +5,19 @@ ghost use Rattle.std.specs.List.{list_any};
 ghost use Rattle.octree_specs.specs.Meeting.{HasPlanes, has_good_candidate};
 ghost use Rattle.octree_specs.specs.Filling.{is_filled, filled_codes};
 
+use morton_code::cube_of;
 use std::alloc::{AllocError, Global};
 use std::marker::Brand;
 use std::sync::ledger::{Blank, Ledger};
-
-use morton_code::cube_of;
 use svo_base::{Cube, Grid, Steps, Triangle};
 use tri_cube::overlaps;
 
 /// The codes of the cells that some triangle meets, in ascending order.
-pub fn filled_cells(alloc: Global, grid: &Grid, triangles: &[Triangle]) -> Result<Vec<u64>, AllocError>
+pub fn filled_cells(
+    alloc: Global,
+    grid: &Grid,
+    triangles: &[Triangle],
+) -> Result<Vec<u64>, AllocError>
     ensures { IfOk result (λ cells. cells.items ≡ filled_codes grid.now triangles.now) }
 {
     filled_in::<Brand>(alloc, grid, triangles, Blank::new(1))
@@ -52,7 +55,12 @@ fn cell_count(grid: &Grid) -> u64
 
 /// Whether some triangle meets the cube of a cell.
 #[tactic(auto, unfolding(octree_specs::specs::Filling::is_filled))]
-fn is_filled<L: Ledger>(grid: &Grid, triangles: &[Triangle], code: u64, tests: &mut Steps<L>) -> bool
+fn is_filled<L: Ledger>(
+    grid: &Grid,
+    triangles: &[Triangle],
+    code: u64,
+    tests: &mut Steps<L>,
+) -> bool
     requires { code < 8 ^ grid.now.depth }
     ensures { result ≡ is_filled grid.now triangles.now code }
 {

@@ -1,0 +1,44 @@
+//! The program: `run` over the standard streams.
+#![tactic(auto)]
+
+mod streams;
+
+use std::process::ExitCode;
+use std::rt::Env;
+use std::{env, io};
+use streams::{HostInput, HostOutput};
+use svo_base::Words;
+use svo_top::{Status, run};
+
+/// The exit status where the system does not give the words.
+const NO_WORDS: u8 = 8;
+
+fn main(rt: HostRuntime) -> ExitCode {
+    let words = match host_words(&rt) {
+        Err(error) => return ExitCode::from(words_code(&error)),
+        Ok(words) => words,
+    };
+    let mut input = HostInput::new(rt.stdin());
+    let mut out = HostOutput::new(rt.stdout());
+    let mut err = HostOutput::new(rt.stderr());
+    let status = run(rt.alloc(), &words, &mut input, &mut out, &mut err);
+    ExitCode::from(status.code())
+}
+
+/// The words after the program's name.
+fn host_words<R: Env + AllocGlobal>(rt: &R) -> io::Result<Words> {
+    let mut words = Words::new(rt.alloc());
+    for word in env::args(rt)?.skip(1) {
+        words.push(word.as_str())?;
+    }
+    Ok(words)
+}
+
+/// The exit status where there are no words: 7 for want of memory, and 8 for any other cause.
+fn words_code(error: &io::Error) -> u8 {
+    if error.kind() == io::ErrorKind::OutOfMemory {
+        Status::Memory.code()
+    } else {
+        NO_WORDS
+    }
+}

@@ -1,0 +1,66 @@
+//! The whole program over its devices.
+
+ghost use Rattle.std.specs.Prelude.{◌≡◌, Ok};
+ghost use Rattle.dev_traits.specs.Change.{change_of};
+ghost use Rattle.svo_top.specs.Build.{BuildRun, BuildMeans};
+ghost use Rattle.svo_top.specs.Causes.{UsageCauses, RangeCauses, DeviceCause, KeepsInput, KeepsOutput, SaysWhy};
+ghost use Rattle.svo_top.specs.Endings.{status_of, EndsBuild};
+ghost use Rattle.svo_top.specs.Form.{form_of};
+
+use crate::building::build;
+use crate::form::{BuildWords, Command, read_words};
+use crate::outcome::{Device, Status};
+use crate::reporting::{Ending, report};
+use dev_traits::{ByteSink, ByteSource};
+use std::alloc::Global;
+use svo_base::Words;
+
+/// Runs the command that the words are, over an input, an output and an output for one line that says
+/// how the run ended.
+pub fn run<I: ByteSource, O: ByteSink, E: ByteSink>(
+    alloc: Global,
+    words: &Words,
+    input: &mut I,
+    out: &mut O,
+    err: &mut E,
+) -> Status
+    // Why a run stops before its work is done. Want of memory has no cause that a clause can name.
+    ensures usage { UsageCauses words.now result }
+    ensures range { RangeCauses words.now result }
+    ensures read { DeviceCause Device.Read (change_of I.rest I.faults input.old input.new) result }
+    ensures write { DeviceCause Device.Write (change_of O.written O.faults out.old out.new) result }
+
+    // What the run of a command does.
+    ensures build { (job : BuildWords) → form_of words.now ≡ Ok (Command.Build job) → BuildRun job (change_of I.rest I.faults input.old input.new) (change_of O.written O.faults out.old out.new) (change_of E.written E.faults err.old err.new) result }
+
+    // What a run that stops leaves as it was, and what it says.
+    ensures keeps_input { KeepsInput (change_of I.rest I.faults input.old input.new) result }
+    ensures keeps_output { KeepsOutput (change_of O.written O.faults out.old out.new) result }
+    ensures says_why { SaysWhy (change_of E.written E.faults err.old err.new) result }
+{
+    let ending = carry_out(alloc, words, input, out);
+    report(&ending, err);
+    ending.status()
+}
+
+/// Reads the words, and carries out their command.
+fn carry_out<I: ByteSource, O: ByteSink>(
+    alloc: Global,
+    words: &Words,
+    input: &mut I,
+    out: &mut O,
+) -> Ending
+    ensures usage { UsageCauses words.now (status_of result) }
+    ensures range { RangeCauses words.now (status_of result) }
+    ensures read { DeviceCause Device.Read (change_of I.rest I.faults input.old input.new) (status_of result) }
+    ensures write { DeviceCause Device.Write (change_of O.written O.faults out.old out.new) (status_of result) }
+    ensures build { (job : BuildWords) → form_of words.now ≡ Ok (Command.Build job) → BuildMeans job (change_of I.rest I.faults input.old input.new) (change_of O.written O.faults out.old out.new) (status_of result) }
+    ensures ends { (job : BuildWords) → form_of words.now ≡ Ok (Command.Build job) → EndsBuild job (change_of I.rest I.faults input.old input.new) (change_of O.written O.faults out.old out.new) result }
+    ensures keeps_input { KeepsInput (change_of I.rest I.faults input.old input.new) (status_of result) }
+    ensures keeps_output { KeepsOutput (change_of O.written O.faults out.old out.new) (status_of result) }
+{
+    match read_words(words) {
+        Err(kind) => Ending::Stopped(Status::Usage(kind)),
+        Ok(Command::Build(job)) => build(alloc, &job, input, out),
+    }
+}
