@@ -9,3 +9,6 @@ mod memory_source;
 pub use device::{ByteSink, ByteSource, Failed};
 pub use memory_sink::{MemSink, PartFail};
 pub use memory_source::MemSource;
+
+#[cfg(test)]
+mod tests;

@@ -11,3 +11,6 @@ pub use counting::Steps;
 pub use grids::{Grid, GridFault, MAX_DEPTH};
 pub use shapes::{Cube, Point, Triangle, Vector};
 pub use texts::Words;
+
+#[cfg(test)]
+mod tests;

@@ -14,3 +14,6 @@ mod running;
 pub use form::{BuildWords, Command};
 pub use outcome::{Device, InputKind, RangeFault, Status, UsageKind};
 pub use running::run;
+
+#[cfg(test)]
+mod tests;
