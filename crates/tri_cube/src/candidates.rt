@@ -1,5 +1,5 @@
-//! Whether one of the candidates, which are the cross products of two rows and their opposites,
-//! clears all rows.
+//! Whether one of the candidates is good. Candidates are the cross products of two rows, and their
+//! opposites, as weights of a triangle's corners.
 
 ghost use Rattle.std.specs.Prelude.{◌≡◌, ◌++◌, ◌^◌, ◌∷◌, [], Bool, not, ◌&&◌, pos, int_le};
 ghost use Rattle.std.specs.List.{list_all, list_any};
@@ -35,12 +35,12 @@ fn has_good_with(row: &NarrowVector, later: &[NarrowVector], sides: &[NarrowVect
 fn has_good_of(a: &NarrowVector, b: &NarrowVector, sides: &[NarrowVector]) -> bool
     ensures { result ≡ has_good_pair sides.now a.now b.now }
 {
-    let direction = cross(a, b);
-    is_good_direction(&direction, sides) || is_good_direction(&opposite(&direction), sides)
+    let weights = cross(a, b);
+    are_good(&weights, sides) || are_good(&opposite(&weights), sides)
 }
 
 /// Whether weights are not all zero, none of them is negative, and they clear all sides.
-fn is_good_direction(weights: &Vector, sides: &[NarrowVector]) -> bool
+fn are_good(weights: &Vector, sides: &[NarrowVector]) -> bool
     requires { IsWithin (2 ^ 69) weights.now }
     ensures { result ≡ is_good (unit_rows ++ sides.now) weights.now }
 {

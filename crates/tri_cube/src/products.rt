@@ -1,12 +1,12 @@
-//! Products of rows and of directions, in 128 bits.
+//! Products of vectors, in 128 bits.
 
-ghost use Rattle.std.specs.Prelude.{◌≡◌, ◌*◌, ◌^◌, ◌≤◌, ◌<◌, ◌+ℤ◌, ◌-ℤ◌, ◌*ℤ◌, unsigned_abs};
+ghost use Rattle.std.specs.Prelude.{◌≡◌, ◌^◌, ◌≤◌, ◌+ℤ◌, ◌-ℤ◌, ◌*ℤ◌, unsigned_abs};
 ghost use Rattle.octree_specs.specs.Vectors.{IsWithin, cross_of, dot_of, opposite_of};
 
 use crate::narrow::NarrowVector;
 use svo_base::Vector;
 
-/// The cross product of two rows.
+/// The cross product.
 pub fn cross(a: &NarrowVector, b: &NarrowVector) -> Vector
     ensures value { result ≡ cross_of a.now b.now }
     ensures within { IsWithin (2 ^ 69) result }
@@ -30,24 +30,24 @@ fn minor(a: i64, b: i64, c: i64, d: i64) -> i128
     wide_product(a, b) - wide_product(c, d)
 }
 
-/// The product of a direction and a row.
-pub fn dot(direction: &Vector, row: &NarrowVector) -> i128
-    requires { IsWithin (2 ^ 69) direction.now }
-    ensures { result ≡ dot_of direction.now row.now }
+/// The scalar product.
+pub fn dot(a: &Vector, b: &NarrowVector) -> i128
+    requires { IsWithin (2 ^ 69) a.now }
+    ensures { result ≡ dot_of a.now b.now }
 {
-    dot_xy(direction, row) + scaled(direction.z, row.z())
+    dot_xy(a, b) + scaled(a.z, b.z())
 }
 
 /// The part of the product that is of x and y.
-fn dot_xy(direction: &Vector, row: &NarrowVector) -> i128
-    requires { IsWithin (2 ^ 69) direction.now }
-    ensures value { result ≡ (direction.now.x *ℤ row.now.x) +ℤ (direction.now.y *ℤ row.now.y) }
+fn dot_xy(a: &Vector, b: &NarrowVector) -> i128
+    requires { IsWithin (2 ^ 69) a.now }
+    ensures value { result ≡ (a.now.x *ℤ b.now.x) +ℤ (a.now.y *ℤ b.now.y) }
     ensures within { unsigned_abs result ≤ 2 ^ 104 }
 {
-    scaled(direction.x, row.x()) + scaled(direction.y, row.y())
+    scaled(a.x, b.x()) + scaled(a.y, b.y())
 }
 
-/// The product of two numbers of rows.
+/// The product of two numbers of narrow vectors.
 fn wide_product(a: i64, b: i64) -> i128
     requires a_in { unsigned_abs a ≤ 2 ^ 34 }
     requires b_in { unsigned_abs b ≤ 2 ^ 34 }
@@ -57,7 +57,7 @@ fn wide_product(a: i64, b: i64) -> i128
     i128::from(a) * i128::from(b)
 }
 
-/// The product of a direction's number and a row's.
+/// The product of a number of a vector and one of a narrow vector.
 fn scaled(a: i128, b: i64) -> i128
     requires a_in { unsigned_abs a ≤ 2 ^ 69 }
     requires b_in { unsigned_abs b ≤ 2 ^ 34 }
@@ -67,15 +67,15 @@ fn scaled(a: i128, b: i64) -> i128
     a * i128::from(b)
 }
 
-/// The opposite direction.
-pub fn opposite(direction: &Vector) -> Vector
-    requires { IsWithin (2 ^ 69) direction.now }
-    ensures value { result ≡ opposite_of direction.now }
+/// The opposite vector.
+pub fn opposite(a: &Vector) -> Vector
+    requires { IsWithin (2 ^ 69) a.now }
+    ensures value { result ≡ opposite_of a.now }
     ensures within { IsWithin (2 ^ 69) result }
 {
     Vector {
-        x: -direction.x,
-        y: -direction.y,
-        z: -direction.z,
+        x: -a.x,
+        y: -a.y,
+        z: -a.z,
     }
 }

@@ -12,7 +12,8 @@ use svo_base::{Point, Triangle, Vector};
 /// Whether the triangle and the cube of these sides are seen to be apart, by their boxes or by the
 /// triangle's plane. They may be apart also where this is not seen.
 pub fn are_apart(triangle: &Triangle, sides: &[NarrowVector; 6]) -> bool
-    ensures { IsTrue result → IsApart sides.now }
+    ensures apart { IsTrue result → IsApart sides.now }
+    ensures boxes { IsTrue (list_any is_negative sides.now) → IsTrue result }
 {
     miss_by_boxes(sides) || miss_by_plane(triangle, sides)
 }

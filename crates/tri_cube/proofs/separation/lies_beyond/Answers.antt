@@ -1,3 +1,4 @@
+-- The combination is of three sides, with factors that are not negative.
 use Rattle.std.proofs.Common.{sym, ◌∙◌, arith}
 use Rattle.std.specs.Prelude.{unsigned_abs}
 use Rattle.tri_cube.proofs.Combinations.{chosen_side, apart_by_combination}
