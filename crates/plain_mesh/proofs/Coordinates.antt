@@ -20,15 +20,18 @@ negated n small = omega (arith, ints)
 pub stored : (z : ℤ) → IsCoordinate z → to_z w32 (of_z w32 z) ≡ z
 stored z near = omega (arith, ints)
 
+-- an unsigned number is a coordinate
 pub front_plain : (end n : ℕ) (text rest : List ℕ) → IsFront (number_then end) IsSize text n rest → IsFront (coordinate_then end) IsCoordinate text (pos n) rest
 unfolding number_then coordinate_then
 front_plain end n text rest front = record { spelled = front.spelled; good = omega (arith, front.good) }
 
+-- a sign and a number that is not 0 are a coordinate
 pub front_signed : (end n : ℕ) (text digits rest : List ℕ) → text ≡ 45 ∷ digits → n ≢ 0 → IsFront (number_then end) IsSize digits n rest → IsFront (coordinate_then end) IsCoordinate text (neg_ℤ (pos n)) rest
 unfolding number_then coordinate_then
 front_signed end zero text digits rest e some front = absurd (some refl)
 front_signed end (suc n) text digits rest e some front = record { spelled = e ∙ ap (λ l. 45 ∷ l) front.spelled; good = omega (arith, front.good) }
 
+-- no sign and no number
 pub missing_plain : (end : ℕ) (text : List ℕ) → ((rest : List ℕ) → text ≢ 45 ∷ rest) → HasNoFront (number_then end) IsSize text → HasNoFront (coordinate_then end) IsCoordinate text
 unfolding number_then coordinate_then
 missing_plain end text sign none (pos n) rest front = none n rest (record { spelled = front.spelled; good = omega (arith, front.good) })
@@ -37,11 +40,13 @@ missing_plain end text sign none (negsuc n) rest front = sign (number_then end (
 no_sign : (n end : ℕ) (text digits rest : List ℕ) → n < 2 ^ 64 → text ≡ (decimal n ++ end ∷ []) ++ rest → text ≡ 45 ∷ digits → ⊥
 no_sign n end text digits rest fits spelled e = unsigned n (end ∷ rest) digits fits (sym (append_assoc (decimal n) (end ∷ []) rest) ∙ (sym spelled ∙ e))
 
+-- a sign and no number
 pub missing_signed : (end : ℕ) (text digits : List ℕ) → text ≡ 45 ∷ digits → HasNoFront (number_then end) IsSize digits → HasNoFront (coordinate_then end) IsCoordinate text
 unfolding number_then coordinate_then
 missing_signed end text digits e none (pos n) rest front = no_sign n end text digits rest (omega (arith, front.good)) front.spelled e
 missing_signed end text digits e none (negsuc n) rest front = none (suc n) rest (record { spelled = cc (front.spelled, e); good = omega (arith, front.good) })
 
+-- a sign and 0
 pub missing_zero : (end : ℕ) (text digits rest : List ℕ) → end < 48 → text ≡ 45 ∷ digits → IsFront (number_then end) IsSize digits 0 rest → HasNoFront (coordinate_then end) IsCoordinate text
 unfolding number_then coordinate_then
 missing_zero end text digits rest mark e read (pos n) more front = no_sign n end text digits more (omega (arith, front.good)) front.spelled e

@@ -12,8 +12,9 @@ use Rattle.std.proofs.lemmas.Int.Digits.{digits_more, digits_value_more}
 use Rattle.std.proofs.lemmas.Fmt.{decimal_is_IsNumeral, decimal-digits_value, decimal_nonempty, first_decimal, decimal_digit}
 use Rattle.plain_mesh.specs.Fronts.{IsFront, HasNoFront, number_then}
 
-own : IsNumeralModel (AllDigits 10) (digits_value 10)
-own = numerals_by_value (AllDigits 10) tells_digits
+-- std's words for digits and their number
+numerals : IsNumeralModel (AllDigits 10) (digits_value 10)
+numerals = numerals_by_value (AllDigits 10) tells_digits
 
 -- the first bytes, so many, are digits with no leading zero, and stand for value
 pub record IsReadTo (text : List ℕ) (at value : ℕ) : Type 0 where
@@ -22,13 +23,12 @@ pub record IsReadTo (text : List ℕ) (at value : ℕ) : Type 0 where
   pub number : digits_value 10 (take at text) ≡ value
   pub lead : 1 < at → get_or text 0 0 ≢ 48
 
-pub read_none : (text : List ℕ) → IsReadTo text 0 0
-read_none text = record { within = omega arith; digits = tt; number = refl; lead = λ h. absurd (omega arith) }
-
+-- the first digit is no zero once another is read behind it
 first_digit : (text : List ℕ) (at : ℕ) → (1 < at → get_or text 0 0 ≢ 48) → (at ≡ 1 → get_or text 0 0 ≢ 48) → 0 < at → get_or text 0 0 ≢ 48
 first_digit text at more one some =
     ⊎_elim more (λ low. one (omega arith)) (cases_lt 1 at)
 
+-- one more digit
 pub read_more : (text : List ℕ) (at value : ℕ) → IsReadTo text at value → at < length text → IsInRange 48 57 (get_or text at 0) → (at ≡ 1 → get_or text 0 0 ≢ 48) → IsReadTo text (at + 1) (value * 10 + (get_or text at 0 - 48))
 read_more text at value read inside digit lead =
     let plain : digit_value (get_or text at 0) + 48 ≡ get_or text at 0 = digit_value_digit (get_or text at 0) digit in
@@ -40,6 +40,7 @@ read_more text at value read inside digit lead =
       lead = λ h. first_digit text at read.lead lead (omega arith);
     }
 
+-- behind a leading zero no digit was read
 only_zero : (text : List ℕ) (at : ℕ) → (1 < at → get_or text 0 0 ≢ 48) → get_or text 0 0 ≡ 48 → 0 < at → length (take at text) ≡ at → length (take at text) ≡ 1
 only_zero text at lead zero some size = ⊎_elim (λ more. absurd (lead more zero)) (λ low. omega arith) (cases_lt 1 at)
 
@@ -50,8 +51,9 @@ read_is_decimal text at value read some fits =
     let first : get_or (take at text) 0 0 ≡ get_or text 0 0 = get_or-take at text 0 0 some in
     let lead : get_or (take at text) 0 0 ≡ 48 → length (take at text) ≡ 1 = λ zero. only_zero text at read.lead (sym first ∙ zero) some size in
     let small : digits_value 10 (take at text) < 2 ^ 64 = omega (arith, read.number) in
-    sym (ap decimal read.number) ∙ decimal-digits_value own (take at text) read.digits (omega arith) lead small
+    sym (ap decimal read.number) ∙ decimal-digits_value numerals (take at text) read.digits (omega arith) lead small
 
+-- the number that ends here is at the front
 pub read_front : (text : List ℕ) (at value end below : ℕ) → IsReadTo text at value → 0 < at → at < length text → get_or text at 0 ≡ end → value < below → below ≤ 2 ^ 32 → IsFront (number_then end) (λ n. n < below) text value (drop (at + 1) text)
 unfolding number_then
 read_front text at value end below read some inside ends small fits =
@@ -71,11 +73,13 @@ spelled_from_front : (text rest : List ℕ) (n end below : ℕ) → below ≤ 2 
 unfolding number_then
 spelled_from_front text rest n end below small front = record { fits = omega (arith, front.good); spelled = front.spelled ∙ append_assoc (decimal n) (end ∷ []) rest }
 
+-- within the numeral are digits
 digit_inside : (text rest : List ℕ) (n end at : ℕ) → IsSpelled text n end rest → at < length (decimal n) → IsInRange 48 57 (get_or text at 0)
 digit_inside text rest n end at s inside =
     let same : get_or text at 0 ≡ get_or (decimal n) at 0 = ap (λ l. get_or l at 0) s.spelled ∙ get_or_append_left (decimal n) (end ∷ rest) 0 at inside in
     rw same (digit_at (decimal n) at (decimal_is_IsNumeral n s.fits).0.1 inside)
 
+-- behind the numeral is the end byte
 end_behind : (text rest : List ℕ) (n end : ℕ) → IsSpelled text n end rest → get_or text (length (decimal n)) 0 ≡ end
 end_behind text rest n end s = ap (λ l. get_or l (length (decimal n)) 0) s.spelled ∙ get_or_at (decimal n) end rest 0 (length (decimal n)) refl
 

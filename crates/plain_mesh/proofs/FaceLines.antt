@@ -25,6 +25,7 @@ record IsCorners (vertices : ℕ) (face : List ℕ) : Type 0 where
   j_known : j < vertices
   k_known : k < vertices
 
+-- a face of three known corners is this list
 corners : (vertices : ℕ) (face : List ℕ) → IsTriple vertices face → IsCorners vertices face
 unfolding triple
 corners vertices [] t = absurd (omega (arith, t.three))
@@ -94,6 +95,7 @@ cut vertices text face rest front =
       third = record { spelled = refl; good = c.k_known };
     }
 
+-- three corners, one behind the other, are a face's line
 pub joined : (vertices i j k : ℕ) (text body first second rest : List ℕ) → text ≡ 51 ∷ 32 ∷ body → IsFront (number_then 32) (IsKnown vertices) body i first → IsFront (number_then 32) (IsKnown vertices) first j second → IsFront (number_then 10) (IsKnown vertices) second k rest → IsFront face_line (IsTriple vertices) text (i ∷ j ∷ k ∷ []) rest
 unfolding triple after_three after_i after_j
 joined vertices i j k text body first second rest e a b c =
@@ -104,6 +106,7 @@ joined vertices i j k text body first second rest e a b c =
       good = record { three = refl; known = All-cons (IsKnown vertices) i (j ∷ k ∷ []) a.good known };
     }
 
+-- no 3 at the front, or no corner at one of the three places: no face's line
 pub no_three : (vertices : ℕ) (text : List ℕ) → ((rest : List ℕ) → text ≡ 51 ∷ 32 ∷ rest → ⊥) → HasNoFront face_line (IsTriple vertices) text
 no_three vertices text none face rest front =
     let c : IsCut vertices text face rest = cut vertices text face rest front in

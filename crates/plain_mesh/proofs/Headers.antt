@@ -58,6 +58,7 @@ cut text rest counts front =
       closes = refl;
     }
 
+-- the parts, one behind the other, are a header
 pub joined : (text first second third fourth rest : List ℕ) (counts : Counts) → text ≡ opening ++ first → IsFront (number_then 10) IsCount first counts.vertices second → second ≡ middle ++ third → IsFront (number_then 10) IsCount third counts.faces fourth → fourth ≡ closing ++ rest → IsFront header_of AreCounts text counts rest
 unfolding after_opening after_vertices after_middle after_faces
 joined text first second third fourth rest counts opens v goes_on f closes =
@@ -78,6 +79,7 @@ same_count text m n r s a b = same_front (number_then 10) IsCount (numbers_unamb
 moved : (r s t : List ℕ) (n : ℕ) → r ≡ s → IsFront (number_then 10) IsCount s n t → IsFront (number_then 10) IsCount r n t
 moved r s t n e front = record { spelled = e ∙ front.spelled; good = front.good }
 
+-- where one of the parts is missing there is no header
 pub no_opening : (text : List ℕ) → ((rest : List ℕ) → text ≢ opening ++ rest) → HasNoFront header_of AreCounts text
 no_opening text none counts rest front = none (after_opening counts.vertices counts.faces rest) (cut text rest counts front).opens
 

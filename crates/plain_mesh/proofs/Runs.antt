@@ -4,13 +4,11 @@ use Rattle.std.specs.Prelude.{All}
 use Rattle.std.specs.List.{flat_map}
 use Rattle.std.proofs.lemmas.List.{append_assoc, append-nil, length_push}
 use Rattle.std.proofs.lemmas.List.Concat.{flat_map-append}
-use Rattle.std.proofs.lemmas.List.Elements.{All-nil, All-head, All-tail, All-push}
+use Rattle.std.proofs.lemmas.List.Elements.{All-head, All-tail, All-push}
 use Rattle.plain_mesh.specs.Fronts.{IsFront, HasNoFront, AreGood}
 use Rattle.plain_mesh.proofs.Spellings.{IsUnambiguous}
 
-pub read_none : {A : Type 0} (spell : A → List ℕ) (Good : A → Type 0) (text : List ℕ) → IsFront (flat_map spell) (AreGood Good 0) text [] text
-read_none spell Good text = record { spelled = refl; good = record { number = refl; each = All-nil Good } }
-
+-- one more value
 pub read_more : {A : Type 0} (spell : A → List ℕ) (Good : A → Type 0) (text rest after : List ℕ) (count : ℕ) (values : List A) (value : A) → IsFront (flat_map spell) (AreGood Good count) text values rest → IsFront spell Good rest value after → IsFront (flat_map spell) (AreGood Good (count + 1)) text (values ++ value ∷ []) after
 read_more spell Good text rest after count values value front next =
     let pieces : flat_map spell (values ++ value ∷ []) ≡ flat_map spell values ++ spell value = flat_map-append spell values (value ∷ []) ∙ ap (λ l. flat_map spell values ++ l) (append-nil (spell value)) in
@@ -29,6 +27,7 @@ next_of spell Good one (v ∷ read) (w ∷ whole) rest more g h longer e none =
     let both : (v ≡ w) × (flat_map spell read ++ rest ≡ flat_map spell whole ++ more) = one.same v w (flat_map spell read ++ rest) (flat_map spell whole ++ more) (All-head Good v read g) (All-head Good w whole h) cut in
     next_of spell Good one read whole rest more (All-tail Good v read g) (All-tail Good w whole h) (omega arith) both.1 none
 
+-- where the next value is missing there is no run of so many
 pub no_next : {A : Type 0} (spell : A → List ℕ) (Good : A → Type 0) → IsUnambiguous spell Good → (text rest : List ℕ) (done count : ℕ) (values : List A) → IsFront (flat_map spell) (AreGood Good done) text values rest → done < count → HasNoFront spell Good rest → HasNoFront (flat_map spell) (AreGood Good count) text
 no_next spell Good one text rest done count values front longer none whole more other =
     next_of spell Good one values whole rest more front.good.each other.good.each (omega (arith, front.good.number, other.good.number)) (sym front.spelled ∙ other.spelled) none

@@ -30,6 +30,7 @@ cut text rest p front = record {
   z = record { spelled = refl; good = front.good.z };
 }
 
+-- three coordinates, one behind the other, are a vertex's line
 pub joined : (text first second rest : List ℕ) (p : Point) → IsFront (coordinate_then 32) IsCoordinate text p.x first → IsFront (coordinate_then 32) IsCoordinate first p.y second → IsFront (coordinate_then 10) IsCoordinate second p.z rest → IsFront vertex_line IsNear text p rest
 unfolding after_x after_y
 joined text first second rest p a b c =
@@ -38,9 +39,11 @@ joined text first second rest p a b c =
       good = record { x = a.good; y = b.good; z = c.good };
     }
 
+-- no coordinate at the first place, the second or the third: no vertex's line
 pub no_x : (text : List ℕ) → HasNoFront (coordinate_then 32) IsCoordinate text → HasNoFront vertex_line IsNear text
 no_x text none p rest front = none p.x (after_x p rest) (cut text rest p front).x
 
+-- behind a coordinate that was read is the line's second
 y_behind : (text first rest : List ℕ) (x : ℤ) (p : Point) → IsFront (coordinate_then 32) IsCoordinate text x first → IsFront vertex_line IsNear text p rest → IsFront (coordinate_then 32) IsCoordinate first p.y (after_y p rest)
 y_behind text first rest x p a front =
     let parts : IsCut text p (after_x p rest) (after_y p rest) rest = cut text rest p front in
@@ -49,6 +52,7 @@ y_behind text first rest x p a front =
 pub no_y : (text first : List ℕ) (x : ℤ) → IsFront (coordinate_then 32) IsCoordinate text x first → HasNoFront (coordinate_then 32) IsCoordinate first → HasNoFront vertex_line IsNear text
 no_y text first x a none p rest front = none p.y (after_y p rest) (y_behind text first rest x p a front)
 
+-- behind two that were read is its third
 z_behind : (text first second rest : List ℕ) (x y : ℤ) (p : Point) → IsFront (coordinate_then 32) IsCoordinate text x first → IsFront (coordinate_then 32) IsCoordinate first y second → IsFront vertex_line IsNear text p rest → IsFront (coordinate_then 10) IsCoordinate second p.z rest
 z_behind text first second rest x y p a b front =
     behind (coordinate_then 32) IsCoordinate (coordinate_then 10) IsCoordinate (coordinates_unambiguous 32 (lit< tt)) first y p.y p.z second (after_y p rest) rest b (y_behind text first rest x p a front) (cut text rest p front).z

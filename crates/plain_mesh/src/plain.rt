@@ -11,7 +11,7 @@ use std::alloc::{AllocError, AllocFailed, Global};
 use std::marker::Model;
 use svo_base::{Point, Triangle};
 
-/// The most bytes that a text has.
+/// The most bytes that a text may have.
 const MAX_BYTES: usize = 1 << 32;
 
 /// Why a text gives no mesh.
@@ -67,7 +67,10 @@ impl Model for PlainMesh {
 impl PlainMesh {
     /// The mesh of a text in the plain form: a header with the counts of vertices and faces, a line of
     /// three coordinates for each vertex, and a line with 3 and three numbers of vertices, counted
-    /// from 0, for each face. A text of more than 2^32 bytes is not in it.
+    /// from 0, for each face. Counts are smaller than 2^32, coordinates have sizes of at most 2^30, and
+    /// a text has at most 2^32 bytes.
+    ///
+    /// `NotPlain`: the text stands for no mesh. `Memory`: the mesh does not fit in memory.
     pub fn read(alloc: Global, text: &[u8]) -> Result<PlainMesh, PlainFault>
         ensures found { IfOk result (λ mesh. IsPlainText text.now mesh) }
         ensures not_plain { result ≡ Err PlainFault.NotPlain → (mesh : Mesh) → IsPlainText text.now mesh → ⊥ }
@@ -100,7 +103,7 @@ impl PlainMesh {
         self.faces.len()
     }
 
-    /// The triangles of the faces, in order.
+    /// The triangles of the faces, in order. The error says that they do not fit in memory.
     #[tactic(auto, unfolding(octree_specs::specs::Mesh::triangles_of))]
     pub fn triangles(&self, alloc: Global) -> Result<Vec<Triangle>, AllocError>
         ensures { IfOk result (λ triangles. triangles.items ≡ triangles_of self.now) }

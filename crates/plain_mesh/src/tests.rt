@@ -1,4 +1,6 @@
-use crate::{PlainFault, PlainMesh};
+//! Texts by hand, and what each of them gives.
+
+use crate::{PlainFault, PlainMesh, one_mesh};
 use std::alloc::{AllocError, Global};
 use std::test::Fail;
 use svo_base::{Point, Triangle};
@@ -100,5 +102,7 @@ fn gives_the_triangles_of_the_faces(rt: HostRuntime) -> Result<(), Fail> {
         c: Point { x: 0, y: 1, z: 0 },
     }];
     assert_eq!(rt; triangles.as_slice(), wanted.as_slice());
+    // The law has nothing to run.
+    one_mesh();
     Ok(())
 }
