@@ -1,4 +1,5 @@
-//! The record words of a set of cells, by one walk down the octree along the sorted codes.
+//! The record words of a set of cells, by one walk down the octree along the sorted codes. Nodes
+//! are put out children before their parent and siblings together.
 
 ghost use Rattle.std.specs.Prelude.{◌≡◌, ◌+◌, ◌*◌, ◌^◌, ◌<◌, ◌≤◌, ◌++◌, true, length, vec_len, IfOk, OnOk};
 ghost use Rattle.std.specs.List.Sorted.{IsStrictlyIncreasing};
@@ -35,8 +36,8 @@ pub fn record_words(alloc: Global, codes: &[u64], depth: u32) -> Result<Vec<u64>
     Ok(words)
 }
 
-/// Writes the words below a node, passes the codes under it, and answers the node's own word.
-/// The height is the number of levels from the node down to the cells.
+/// Writes the words below a node, passes the codes under it, and answers the node's own word. The
+/// height is the number of levels from the node down to the cells.
 fn walk(codes: &[u64], progress: &mut Progress, height: u32, node: u64) -> Result<u64, AllocError>
     requires ascending { IsStrictlyIncreasing codes.now }
     requires inside { (node + 1) * 8 ^ height ≤ 2 ^ 36 }
@@ -48,6 +49,7 @@ fn walk(codes: &[u64], progress: &mut Progress, height: u32, node: u64) -> Resul
     ensures to { OnOk result (HasPassed codes.now progress.new.passed ((node + 1) * 8 ^ height)) }
 {
     if height == 0 {
+        // A cell has no record.
         progress.passed += 1;
         return Ok(0);
     }
@@ -62,6 +64,7 @@ fn walk(codes: &[u64], progress: &mut Progress, height: u32, node: u64) -> Resul
         }
     }
     if height == 1 {
+        // The children are cells, so no record is theirs.
         return Ok(mask);
     }
     let base = progress.words.len() as u64;
