@@ -67,9 +67,18 @@ fn walk(codes: &[u64], progress: &mut Progress, height: u32, node: u64) -> Resul
         // The children are cells, so no record is theirs.
         return Ok(mask);
     }
-    let base = progress.words.len() as u64;
-    progress.words.extend_from_slice(children.as_slice())?;
+    let base = push_siblings(&mut progress.words, children.as_slice())?;
     Ok(mask + 256 * base)
+}
+
+/// Adds the words of siblings, and answers the number of the first one's record.
+fn push_siblings(words: &mut Vec<u64>, siblings: &[u64]) -> Result<u64, AllocError>
+    ensures added { OnOk result (words.new.items ≡ words.old.items ++ siblings.now) }
+    ensures first { IfOk result (λ first. first ≡ vec_len words.old) }
+{
+    let first = words.len() as u64;
+    words.extend_from_slice(siblings)?;
+    Ok(first)
 }
 
 /// Whether the code at a place is that of a cell under the node.
