@@ -1,12 +1,11 @@
 -- How many nodes there are below a node, and so how many words.
-use Rattle.std.proofs.Common.{◌≡◌, ℕ, zero, suc, ◌+◌, ◌*◌, ◌-◌, ◌^◌, ◌<◌, ◌≤◌, lit<, lit≤, get_or, List, [], ◌∷◌, ◌++◌, length, map, refl, ap, sym, ◌∙◌, arith, add-zero}
-use Rattle.std.specs.List.{All, filter, flat_map, sum_by, count_by, range_with_len}
+use Rattle.std.proofs.Common.{◌≡◌, ℕ, zero, suc, ◌+◌, ◌*◌, ◌-◌, ◌^◌, ◌<◌, ◌≤◌, lit<, lit≤, get_or, List, [], ◌∷◌, length, map, refl, ap, ◌∙◌, arith}
+use Rattle.std.specs.List.{flat_map, sum_by, range_with_len}
 use Rattle.std.proofs.Math.Nat.{pow-suc, one-le-pow, mul-le-mul_right}
 use Rattle.std.proofs.lemmas.List.{length-append, length-map}
-use Rattle.std.proofs.lemmas.List.Elements.{All-from_get_or}
 use Rattle.std.proofs.lemmas.List.FromFn.{length-range_with_len}
 use Rattle.std.proofs.lemmas.List.Sums.{sum_by-cons, sum_by-le, length-filter, count_by-le-length}
-use Rattle.octree_specs.specs.NodeWords.{Placed, placed, is_nonempty, children_of, size_of, base_of, word_of, below_of}
+use Rattle.octree_specs.specs.NodeWords.{Placed, placed, is_nonempty, children_of, size_of, word_of, below_of}
 
 pub octal_positive : (n : ℕ) → 0 < 8 ^ n
 octal_positive n = one-le-pow n 8 (lit< tt)

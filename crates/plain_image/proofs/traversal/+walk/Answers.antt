@@ -3,7 +3,7 @@ use Rattle.std.proofs.Common.{◌≡◌, ℕ, suc, ◌+◌, ◌-◌, ◌*◌, �
 use Rattle.octree_specs.specs.NodeWords.{is_nonempty}
 use Rattle.plain_image.specs.Passing.{HasPassed}
 use Rattle.plain_image.proofs.PassedCodes.{shallow_from, small_from, child_inside, passed_before_children, passed_children, passed_empty, passed_cell, cell_is_first}
-use Rattle.plain_image.proofs.WrittenChildren.{AreWritten, no_children, skip_empty, write_child, set_bit, words_fit, all_words_fit, at_cell, above_cells, above_nodes}
+use Rattle.plain_image.proofs.WrittenChildren.{no_children, skip_empty, write_child, set_bit, words_fit, all_words_fit, at_cell, above_cells, above_nodes}
 use Rattle.plain_image.proofs.traversal.+walk.Goals as goal
 use Rattle.plain_image.proofs.traversal.+walk.Goals.{then-is_under+in_ok-word, else-is_under}
 
