@@ -55,6 +55,7 @@ first_children_more codes height node count =
     ∙ ap (filter (is_nonempty codes height)) (range_with_len-suc (8 * node) count)
     ∙ filter-append (is_nonempty codes height) (range_with_len (8 * node) count) ((8 * node + count) ∷ [])
 
+-- before the first child nothing is written
 pub no_children : (codes : List ℕ) (height node : ℕ) (before : List ℕ) → AreWritten codes height node 0 before before [] 0
 unfolding first_children
 no_children codes height node before =
@@ -143,10 +144,12 @@ all_words_fit {lower = lower} {node = node} {words = words} written height limit
     let inside' : (node + 1) * (8 ^ lower * 8) ≤ limit = rw (up, pow-suc 8 lower) at inside in
     omega arith
 
+-- the first eight are all
 all_children : (codes : List ℕ) (height node : ℕ) → children_of codes height node ≡ first_children codes height node 8
 unfolding children_of first_children
 all_children codes height node = refl
 
+-- below cells there is nothing
 nothing_below : (codes : List ℕ) (places : List Placed) → flat_map (λ (child : Placed). below_of codes 0 child.node child.at) places ≡ []
 unfolding below_of
 nothing_below codes [] = refl

@@ -67,7 +67,8 @@ fn side_of(grid: &Grid) -> u64
 
 /// Adds the components of an origin.
 fn push_origin(bytes: &mut Vec<u8>, origin: &[i64; 3]) -> Result<(), AllocError>
-    ensures { OnOk result (bytes.new.items ≡ bytes.old.items ++ flat_map (λ o. to_le_bytes w64 (cast_unsigned w64 o)) origin.now) }
+    ensures { OnOk result (bytes.new.items
+        ≡ bytes.old.items ++ flat_map (λ o. to_le_bytes w64 (cast_unsigned w64 o)) origin.now) }
 {
     for component in origin {
         bytes.extend_from_slice(&component.to_le_bytes())?;

@@ -8,6 +8,7 @@ ghost use Rattle.plain_image.specs.Passing.{HasPassed};
 
 use arrayvec::ArrayVec;
 use std::alloc::{AllocError, Global};
+use svo_base::MAX_DEPTH;
 
 /// How far a walk has come: the words so far, and the number of codes that it has passed.
 #[derive(Drop)]
@@ -19,7 +20,7 @@ struct Progress {
 /// The words of an octree of this depth, each node's after those below it.
 pub fn record_words(alloc: Global, codes: &[u64], depth: u32) -> Result<Vec<u64>, AllocError>
     requires least { 1 ≤ depth }
-    requires most { depth ≤ 12 }
+    requires most { depth ≤ MAX_DEPTH }
     requires set { AreCells depth codes.now }
     ensures { IfOk result (λ words. words.items ≡ words_of codes.now depth) }
 {
@@ -40,11 +41,12 @@ pub fn record_words(alloc: Global, codes: &[u64], depth: u32) -> Result<Vec<u64>
 /// height is the number of levels from the node down to the cells.
 fn walk(codes: &[u64], progress: &mut Progress, height: u32, node: u64) -> Result<u64, AllocError>
     requires ascending { IsStrictlyIncreasing codes.now }
-    requires inside { (node + 1) * 8 ^ height ≤ 2 ^ 36 }
+    requires inside { (node + 1) * 8 ^ height ≤ 8 ^ MAX_DEPTH }
     requires room { vec_len progress.old.words ≤ node * 8 ^ height }
     requires from { HasPassed codes.now progress.old.passed (node * 8 ^ height) }
     requires cell { height ≡ 0 → is_nonempty codes.now 0 node ≡ true }
-    ensures below { OnOk result (progress.new.words.items ≡ progress.old.words.items ++ below_of codes.now height node (vec_len progress.old.words)) }
+    ensures below { OnOk result (progress.new.words.items
+        ≡ progress.old.words.items ++ below_of codes.now height node (vec_len progress.old.words)) }
     ensures own { IfOk result (λ word. word ≡ word_of codes.now height node (vec_len progress.old.words)) }
     ensures to { OnOk result (HasPassed codes.now progress.new.passed ((node + 1) * 8 ^ height)) }
 {
@@ -84,7 +86,7 @@ fn push_siblings(words: &mut Vec<u64>, siblings: &[u64]) -> Result<u64, AllocErr
 /// Whether the code at a place is that of a cell under the node.
 fn is_under(codes: &[u64], place: usize, height: u32, node: u64) -> bool
     requires ascending { IsStrictlyIncreasing codes.now }
-    requires shallow { height ≤ 12 }
+    requires shallow { height ≤ MAX_DEPTH }
     requires from { HasPassed codes.now place (node * 8 ^ height) }
     ensures { result ≡ is_nonempty codes.now height node }
 {
