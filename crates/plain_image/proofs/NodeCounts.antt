@@ -1,16 +1,17 @@
 -- How many nodes there are below a node, and so how many words.
-use Rattle.std.proofs.Common.{◌≡◌, ℕ, zero, suc, ◌+◌, ◌*◌, ◌-◌, ◌^◌, ◌<◌, ◌≤◌, lit<, lit≤, get_or, List, [], ◌∷◌, ◌++◌, length, map, refl, ap, sym, ◌∙◌, arith, add-zero}
-use Rattle.std.specs.List.{All, filter, flat_map, sum_by, count_by, range_with_len}
+use Rattle.std.proofs.Common.{◌≡◌, ℕ, zero, suc, ◌+◌, ◌*◌, ◌-◌, ◌^◌, ◌<◌, ◌≤◌, lit<, lit≤, get_or, List, [], ◌∷◌, length, map, refl, ap, ◌∙◌, arith}
+use Rattle.std.specs.List.{flat_map, sum_by, range_with_len}
 use Rattle.std.proofs.Math.Nat.{pow-suc, one-le-pow, mul-le-mul_right}
 use Rattle.std.proofs.lemmas.List.{length-append, length-map}
-use Rattle.std.proofs.lemmas.List.Elements.{All-from_get_or}
 use Rattle.std.proofs.lemmas.List.FromFn.{length-range_with_len}
 use Rattle.std.proofs.lemmas.List.Sums.{sum_by-cons, sum_by-le, length-filter, count_by-le-length}
-use Rattle.octree_specs.specs.NodeWords.{Placed, placed, is_nonempty, children_of, size_of, base_of, word_of, below_of}
+use Rattle.octree_specs.specs.NodeWords.{Placed, placed, is_nonempty, children_of, size_of, word_of, below_of}
 
+-- a node of any height has cells
 pub octal_positive : (n : ℕ) → 0 < 8 ^ n
 octal_positive n = one-le-pow n 8 (lit< tt)
 
+-- placing keeps the number of nodes
 length-placed : (size : ℕ → ℕ) (at : ℕ) (nodes : List ℕ) → length (placed size at nodes) ≡ length nodes
 length-placed size at [] = refl
 length-placed size at (node ∷ rest) = ap suc (length-placed size (at + size node) rest)
@@ -22,6 +23,7 @@ sum_by-suc size (node ∷ rest) =
     let more : sum_by (λ x. 1 + size x) rest ≡ sum_by size rest + length rest = sum_by-suc size rest in
     rw (sum_by-cons (λ x. 1 + size x) node rest, sum_by-cons size node rest) (omega arith)
 
+-- what is written below nodes is as long as the sizes together
 length-flat_map-placed : (below : ℕ → ℕ → List ℕ) (size : ℕ → ℕ) → ((node at : ℕ) → length (below node at) ≡ size node)
     → (at : ℕ) (nodes : List ℕ) → length (flat_map (λ (child : Placed). below child.node child.at) (placed size at nodes)) ≡ sum_by size nodes
 length-flat_map-placed below size same at [] = refl
@@ -45,6 +47,7 @@ length-below_of codes (suc (suc height)) node at =
     length-append (flat_map (λ (child : Placed). below_of codes (suc height) child.node child.at) (placed size at children)) (map (λ (child : Placed). word_of codes (suc height) child.node child.at) (placed size at children))
     ∙ rw (sum_by-suc size children) (omega arith)
 
+-- a node has at most eight children
 pub length-children_of : (codes : List ℕ) (height node : ℕ) → length (children_of codes height node) ≤ 8
 unfolding children_of
 length-children_of codes height node =
@@ -67,6 +70,7 @@ size_of-le_inner codes (suc height) node =
     let positive : 0 < 8 ^ suc height = octal_positive (suc height) in
     omega arith
 
+-- nor are there ever more
 pub size_of-le : (codes : List ℕ) (height node : ℕ) → size_of codes height node ≤ 8 ^ height
 unfolding size_of
 size_of-le codes zero node = lit≤ tt

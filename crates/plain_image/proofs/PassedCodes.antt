@@ -1,7 +1,7 @@
 -- Where the codes of the cells under a node stand among sorted codes.
 use Rattle.std.proofs.Common.{◌≡◌, ◌≢◌, ℕ, zero, suc, ◌+◌, ◌*◌, ◌/◌, ◌^◌, ◌<◌, ◌≤◌, true, false, eqb, List, length, get_or, refl, sym, ◌∙◌, arith, lit<, ⊎_elim}
 use Rattle.std.specs.List.Sorted.{IsStrictlyIncreasing}
-use Rattle.std.proofs.Math.Nat.{one-le-pow, pow-suc, mul-le-mul_left, mul-le-mul_right, pow-le-pow_right, le-div_iff_mul-le, div-lt_iff_lt-mul, div-mul-le_self, lt-div-mul-add}
+use Rattle.std.proofs.Math.Nat.{pow-suc, mul-le-mul_left, mul-le-mul_right, pow-le-pow_right, le-div_iff_mul-le, div-lt_iff_lt-mul, div-mul-le_self, lt-div-mul-add}
 use Rattle.std.proofs.lemmas.Nat.{pow-add}
 use Rattle.std.proofs.lemmas.Bool.{cases_lt, cases_eq, both_ways, eq-eqb, ne_eqb, eqb-true}
 use Rattle.std.proofs.lemmas.List.Elements.{All-from_get_or}
@@ -43,25 +43,28 @@ child_inside lower height node octant limit up within inside =
     omega arith
 
 -- the codes of the cells under a node are those between two multiples
-pub is_under : (height node code : ℕ) → node * 8 ^ height ≤ code → code < (node + 1) * 8 ^ height → code / 8 ^ height ≡ node
+is_under : (height node code : ℕ) → node * 8 ^ height ≤ code → code < (node + 1) * 8 ^ height → code / 8 ^ height ≡ node
 is_under height node code least most =
     let positive : 0 < 8 ^ height = octal_positive height in
     let low : node ≤ code / 8 ^ height = (le-div_iff_mul-le positive).1 least in
     let high : code / 8 ^ height < node + 1 = (div-lt_iff_lt-mul positive).1 most in
     omega arith
 
-pub least_under : (height node code : ℕ) → code / 8 ^ height ≡ node → node * 8 ^ height ≤ code
+-- a code under the node is not below its first code
+least_under : (height node code : ℕ) → code / 8 ^ height ≡ node → node * 8 ^ height ≤ code
 least_under height node code under = rw under at (div-mul-le_self code (8 ^ height))
 
-pub below_next : (height node code : ℕ) → code / 8 ^ height ≡ node → code < (node + 1) * 8 ^ height
+-- nor from the next node's first code on
+below_next : (height node code : ℕ) → code / 8 ^ height ≡ node → code < (node + 1) * 8 ^ height
 below_next height node code under =
     let below : code < node * 8 ^ height + 8 ^ height = rw under at (lt-div-mul-add {a = code} {b = 8 ^ height} (octal_positive height)) in
     omega arith
 
 -- a code under the node makes it nonempty
-pub nonempty_from : (codes : List ℕ) (height node place : ℕ) → place < length codes → get_or codes place 0 / 8 ^ height ≡ node → is_nonempty codes height node ≡ true
+nonempty_from : (codes : List ℕ) (height node place : ℕ) → place < length codes → get_or codes place 0 / 8 ^ height ≡ node → is_nonempty codes height node ≡ true
 nonempty_from codes height node place within under = list_any_at (λ code. eqb (code / 8 ^ height) node) codes place 0 within (eq-eqb (get_or codes place 0 / 8 ^ height) node under)
 
+-- an earlier code is not above a later one
 ordered : (codes : List ℕ) (i j : ℕ) → IsStrictlyIncreasing codes → i ≤ j → j < length codes → get_or codes i 0 ≤ get_or codes j 0
 ordered codes i j ascending le within =
     ⊎_elim

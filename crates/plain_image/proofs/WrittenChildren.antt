@@ -1,12 +1,11 @@
 -- The words that are written while the children of a node are walked.
-use Rattle.std.proofs.Common.{◌≡◌, ℕ, zero, suc, ◌+◌, ◌*◌, ◌%◌, ◌^◌, ◌<◌, ◌≤◌, Bool, true, false, cond, List, [], ◌∷◌, ◌++◌, length, get_or, map, refl, ap, sym, ◌∙◌, subst, arith, add-zero, add-one, add_assoc, lit<, lit≤, append-nil, append_assoc}
+use Rattle.std.proofs.Common.{◌≡◌, ℕ, zero, suc, ◌+◌, ◌*◌, ◌%◌, ◌^◌, ◌<◌, ◌≤◌, true, false, cond, List, [], ◌∷◌, ◌++◌, length, get_or, map, refl, ap, sym, ◌∙◌, arith, add-zero, add-one, lit<, lit≤, append-nil, append_assoc}
 use Rattle.std.specs.List.{filter, flat_map, sum_by, range_with_len}
 use Rattle.std.proofs.Math.Nat.{pow-suc, mul-le-mul_right}
 use Rattle.std.specs.Prelude.{bit_or}
 use Rattle.std.proofs.lemmas.Nat.{one_shl, or_comm, or_shifted}
 use Rattle.std.proofs.lemmas.List.FromFn.{length-range_with_len}
-use Rattle.std.proofs.lemmas.List.{length-append, length_push, map-id, map-append, map_push, flat_map_more}
-use Rattle.std.proofs.lemmas.List.Concat.{flat_map-append}
+use Rattle.std.proofs.lemmas.List.{length-append, length_push, map_push, flat_map_more}
 use Rattle.std.proofs.lemmas.List.Elements.{filter-append}
 use Rattle.std.proofs.lemmas.List.Sums.{sum_by-cons, sum_by_push, sum_by-le, length-filter, count_by-le-length}
 use Rattle.octree_specs.specs.NodeWords.{Placed, placed, is_nonempty, children_of, size_of, mask_of, base_of, word_of, below_of}
@@ -56,6 +55,7 @@ first_children_more codes height node count =
     ∙ ap (filter (is_nonempty codes height)) (range_with_len-suc (8 * node) count)
     ∙ filter-append (is_nonempty codes height) (range_with_len (8 * node) count) ((8 * node + count) ∷ [])
 
+-- before the first child nothing is written
 pub no_children : (codes : List ℕ) (height node : ℕ) (before : List ℕ) → AreWritten codes height node 0 before before [] 0
 unfolding first_children
 no_children codes height node before =
@@ -144,10 +144,12 @@ all_words_fit {lower = lower} {node = node} {words = words} written height limit
     let inside' : (node + 1) * (8 ^ lower * 8) ≤ limit = rw (up, pow-suc 8 lower) at inside in
     omega arith
 
+-- the first eight are all
 all_children : (codes : List ℕ) (height node : ℕ) → children_of codes height node ≡ first_children codes height node 8
 unfolding children_of first_children
 all_children codes height node = refl
 
+-- below cells there is nothing
 nothing_below : (codes : List ℕ) (places : List Placed) → flat_map (λ (child : Placed). below_of codes 0 child.node child.at) places ≡ []
 unfolding below_of
 nothing_below codes [] = refl

@@ -1,4 +1,6 @@
-//! The parts of a node file: its header, its records and its trailer.
+//! The parts of a node file. The header has the name of the format, the depth, a zero, the origin
+//! and the side of a cell; then come the words of the records; the trailer has a zero, the numbers
+//! of records and of cells, and the name of the end. All numbers are little-endian.
 
 ghost use Rattle.std.specs.Prelude.{◌≡◌, ◌++◌, length, IfOk, OnOk};
 ghost use Rattle.std.specs.List.{flat_map};
@@ -45,7 +47,6 @@ pub fn node_image(alloc: Global, grid: &Grid, cells: &[u64]) -> Result<NodeImage
 }
 
 /// Adds the header of a grid's file.
-#[tactic(auto, using(crate::proofs::Joining::joining), unfolding(octree_specs::specs::NodeFile::header_of))]
 fn push_header(bytes: &mut Vec<u8>, grid: &Grid) -> Result<(), AllocError>
     ensures { OnOk result (bytes.new.items ≡ bytes.old.items ++ header_of grid.now) }
 {
@@ -53,13 +54,21 @@ fn push_header(bytes: &mut Vec<u8>, grid: &Grid) -> Result<(), AllocError>
     bytes.extend_from_slice(&grid.depth().to_le_bytes())?;
     bytes.extend_from_slice(&0u32.to_le_bytes())?;
     push_origin(bytes, &grid.origin())?;
-    bytes.extend_from_slice(&grid.cell().unsigned_abs().to_le_bytes())?;
+    bytes.extend_from_slice(&side_of(grid).to_le_bytes())?;
     Ok(())
+}
+
+/// The side of a grid's cells.
+fn side_of(grid: &Grid) -> u64
+    ensures { result ≡ grid.now.cell }
+{
+    grid.cell().unsigned_abs()
 }
 
 /// Adds the components of an origin.
 fn push_origin(bytes: &mut Vec<u8>, origin: &[i64; 3]) -> Result<(), AllocError>
-    ensures { OnOk result (bytes.new.items ≡ bytes.old.items ++ flat_map (λ o. to_le_bytes w64 (cast_unsigned w64 o)) origin.now) }
+    ensures { OnOk result (bytes.new.items
+        ≡ bytes.old.items ++ flat_map (λ o. to_le_bytes w64 (cast_unsigned w64 o)) origin.now) }
 {
     for component in origin {
         bytes.extend_from_slice(&component.to_le_bytes())?;

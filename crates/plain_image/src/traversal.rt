@@ -1,4 +1,5 @@
-//! The record words of a set of cells, by one walk down the octree along the sorted codes.
+//! The record words of a set of cells, by one walk down the octree along the sorted codes. Nodes
+//! are put out children before their parent and siblings together.
 
 ghost use Rattle.std.specs.Prelude.{◌≡◌, ◌+◌, ◌*◌, ◌^◌, ◌<◌, ◌≤◌, ◌++◌, true, length, vec_len, IfOk, OnOk};
 ghost use Rattle.std.specs.List.Sorted.{IsStrictlyIncreasing};
@@ -7,6 +8,7 @@ ghost use Rattle.plain_image.specs.Passing.{HasPassed};
 
 use arrayvec::ArrayVec;
 use std::alloc::{AllocError, Global};
+use svo_base::MAX_DEPTH;
 
 /// How far a walk has come: the words so far, and the number of codes that it has passed.
 #[derive(Drop)]
@@ -18,7 +20,7 @@ struct Progress {
 /// The words of an octree of this depth, each node's after those below it.
 pub fn record_words(alloc: Global, codes: &[u64], depth: u32) -> Result<Vec<u64>, AllocError>
     requires least { 1 ≤ depth }
-    requires most { depth ≤ 12 }
+    requires most { depth ≤ MAX_DEPTH }
     requires set { AreCells depth codes.now }
     ensures { IfOk result (λ words. words.items ≡ words_of codes.now depth) }
 {
@@ -35,19 +37,21 @@ pub fn record_words(alloc: Global, codes: &[u64], depth: u32) -> Result<Vec<u64>
     Ok(words)
 }
 
-/// Writes the words below a node, passes the codes under it, and answers the node's own word.
-/// The height is the number of levels from the node down to the cells.
+/// Writes the words below a node, passes the codes under it, and answers the node's own word. The
+/// height is the number of levels from the node down to the cells.
 fn walk(codes: &[u64], progress: &mut Progress, height: u32, node: u64) -> Result<u64, AllocError>
     requires ascending { IsStrictlyIncreasing codes.now }
-    requires inside { (node + 1) * 8 ^ height ≤ 2 ^ 36 }
+    requires inside { (node + 1) * 8 ^ height ≤ 8 ^ MAX_DEPTH }
     requires room { vec_len progress.old.words ≤ node * 8 ^ height }
     requires from { HasPassed codes.now progress.old.passed (node * 8 ^ height) }
     requires cell { height ≡ 0 → is_nonempty codes.now 0 node ≡ true }
-    ensures below { OnOk result (progress.new.words.items ≡ progress.old.words.items ++ below_of codes.now height node (vec_len progress.old.words)) }
+    ensures below { OnOk result (progress.new.words.items
+        ≡ progress.old.words.items ++ below_of codes.now height node (vec_len progress.old.words)) }
     ensures own { IfOk result (λ word. word ≡ word_of codes.now height node (vec_len progress.old.words)) }
     ensures to { OnOk result (HasPassed codes.now progress.new.passed ((node + 1) * 8 ^ height)) }
 {
     if height == 0 {
+        // A cell has no record.
         progress.passed += 1;
         return Ok(0);
     }
@@ -62,17 +66,27 @@ fn walk(codes: &[u64], progress: &mut Progress, height: u32, node: u64) -> Resul
         }
     }
     if height == 1 {
+        // The children are cells, so no record is theirs.
         return Ok(mask);
     }
-    let base = progress.words.len() as u64;
-    progress.words.extend_from_slice(children.as_slice())?;
+    let base = push_siblings(&mut progress.words, children.as_slice())?;
     Ok(mask + 256 * base)
+}
+
+/// Adds the words of siblings, and answers the number of the first one's record.
+fn push_siblings(words: &mut Vec<u64>, siblings: &[u64]) -> Result<u64, AllocError>
+    ensures added { OnOk result (words.new.items ≡ words.old.items ++ siblings.now) }
+    ensures first { IfOk result (λ first. first ≡ vec_len words.old) }
+{
+    let first = words.len() as u64;
+    words.extend_from_slice(siblings)?;
+    Ok(first)
 }
 
 /// Whether the code at a place is that of a cell under the node.
 fn is_under(codes: &[u64], place: usize, height: u32, node: u64) -> bool
     requires ascending { IsStrictlyIncreasing codes.now }
-    requires shallow { height ≤ 12 }
+    requires shallow { height ≤ MAX_DEPTH }
     requires from { HasPassed codes.now place (node * 8 ^ height) }
     ensures { result ≡ is_nonempty codes.now height node }
 {

@@ -1,6 +1,5 @@
 -- One component more.
-use Rattle.std.proofs.Common.{◌≡◌, ◌++◌, ◌∙◌, ℤ, pos, take, get_or, length, ◌<◌, rules, arith}
-use Rattle.std.specs.List.{flat_map}
+use Rattle.std.proofs.Common.{◌≡◌, ◌∙◌, ℤ, pos, take, get_or, length, ◌<◌, rules, arith}
 use Rattle.std.specs.Int.{w64, cast_unsigned, to_le_bytes}
 use Rattle.std.proofs.Math.Facts.{of_z-to_z, Fits-of_z}
 use Rattle.std.proofs.Common.{to_z, SFits}

@@ -3,7 +3,7 @@ use Rattle.std.proofs.Common.{◌≡◌, ℕ, suc, ◌+◌, ◌-◌, ◌*◌, �
 use Rattle.octree_specs.specs.NodeWords.{is_nonempty}
 use Rattle.plain_image.specs.Passing.{HasPassed}
 use Rattle.plain_image.proofs.PassedCodes.{shallow_from, small_from, child_inside, passed_before_children, passed_children, passed_empty, passed_cell, cell_is_first}
-use Rattle.plain_image.proofs.WrittenChildren.{AreWritten, no_children, skip_empty, write_child, set_bit, words_fit, all_words_fit, at_cell, above_cells, above_nodes}
+use Rattle.plain_image.proofs.WrittenChildren.{no_children, skip_empty, write_child, set_bit, words_fit, all_words_fit, at_cell, above_cells, above_nodes}
 use Rattle.plain_image.proofs.traversal.+walk.Goals as goal
 use Rattle.plain_image.proofs.traversal.+walk.Goals.{then-is_under+in_ok-word, else-is_under}
 
@@ -101,7 +101,7 @@ overflow_mul-result t c =
     let start : length c.args.progress.now.words.items ≤ c.args.node * 8 ^ c.args.height = rw c.args.progress.now.words.ok.0 at c.requires.room in
     let base : length c.loop-octant.progress.words.items ≤ 2 ^ 36 =
     all_words_fit (rw last at c.loop-octant.invariant.0) c.args.height (2 ^ 36) (omega (arith, c.if-height-eq0.false)) start c.requires.inside in
-    let same : c.len-base.result ≡ length c.loop-octant.progress.words.items = c.len-base.ensures ∙ c.loop-octant.progress.words.ok.0 in
+    let same : c.in_ok-base.base ≡ length c.loop-octant.progress.words.items = c.in_ok-base.ensures.first ∙ c.loop-octant.progress.words.ok.0 in
     omega arith
 
 pub overflow_add-result : goal.overflow_add-result
@@ -110,7 +110,7 @@ overflow_add-result t c =
     let start : length c.args.progress.now.words.items ≤ c.args.node * 8 ^ c.args.height = rw c.args.progress.now.words.ok.0 at c.requires.room in
     let base : length c.loop-octant.progress.words.items ≤ 2 ^ 36 =
     all_words_fit (rw last at c.loop-octant.invariant.0) c.args.height (2 ^ 36) (omega (arith, c.if-height-eq0.false)) start c.requires.inside in
-    let same : c.len-base.result ≡ length c.loop-octant.progress.words.items = c.len-base.ensures ∙ c.loop-octant.progress.words.ok.0 in
+    let same : c.in_ok-base.base ≡ length c.loop-octant.progress.words.items = c.in_ok-base.ensures.first ∙ c.loop-octant.progress.words.ok.0 in
     let small : c.loop-octant.mask < 2 ^ 8 = rw last at c.loop-octant.invariant.0.small in
     omega arith
 
@@ -119,7 +119,7 @@ returns-clause-below t c =
     let last : c.loop-octant.octant ≡ 8 = omega arith in
     let up : c.args.height ≡ suc (c.args.height - 1) = omega (arith, c.if-height-eq0.false) in
     let inner : 0 < c.args.height - 1 = omega (arith, c.if-height-eq0.false, c.if-height-eq1.false) in
-    c.in_ok-extend_from_slice.ensures.items
+    c.in_ok-base.ensures.added
     ∙ rw c.as_slice.ensures.value
     (above_nodes (rw last at c.loop-octant.invariant.0) c.args.height (vec_len c.args.progress.now.words) up inner (sym c.args.progress.now.words.ok.0)).below
 
@@ -128,7 +128,7 @@ returns-clause-own t c =
     let last : c.loop-octant.octant ≡ 8 = omega arith in
     let up : c.args.height ≡ suc (c.args.height - 1) = omega (arith, c.if-height-eq0.false) in
     let inner : 0 < c.args.height - 1 = omega (arith, c.if-height-eq0.false, c.if-height-eq1.false) in
-    let same : c.len-base.result ≡ length c.loop-octant.progress.words.items = c.len-base.ensures ∙ c.loop-octant.progress.words.ok.0 in
+    let same : c.in_ok-base.base ≡ length c.loop-octant.progress.words.items = c.in_ok-base.ensures.first ∙ c.loop-octant.progress.words.ok.0 in
     rw same
     (above_nodes (rw last at c.loop-octant.invariant.0) c.args.height (vec_len c.args.progress.now.words) up inner (sym c.args.progress.now.words.ok.0)).own
 

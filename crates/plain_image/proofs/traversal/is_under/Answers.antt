@@ -1,5 +1,5 @@
 -- The first code that was not passed tells whether the node is nonempty; past all codes it is empty.
-use Rattle.std.proofs.Common.{◌<◌, length, sym, ◌∙◌, arith}
+use Rattle.std.proofs.Common.{length, sym, ◌∙◌, arith}
 use Rattle.std.proofs.lemmas.Bool.{le-ltb}
 use Rattle.plain_image.proofs.PassedCodes.{octal_digits, told_by_first, empty_from}
 use Rattle.plain_image.proofs.traversal.is_under.Goals as goal

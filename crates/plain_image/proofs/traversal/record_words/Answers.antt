@@ -1,5 +1,5 @@
 -- The root's cells are those of the whole octree, and its word comes last.
-use Rattle.std.proofs.Common.{◌≡◌, ◌*◌, ◌^◌, ◌≤◌, ◌∙◌, arith, lit<, refl}
+use Rattle.std.proofs.Common.{◌^◌, ◌≤◌, ◌∙◌, arith, lit<, refl}
 use Rattle.std.proofs.Math.Nat.{pow-le-pow_right}
 use Rattle.octree_specs.specs.NodeWords.{words_of}
 use Rattle.plain_image.proofs.traversal.record_words.Goals as goal
