@@ -1,6 +1,7 @@
 -- Small examples, computed from the definitions alone: what each definition says of a case that was worked out by hand.
-use Rattle.std.proofs.Common.{◌≡◌, ℕ, List, [], ◌∷◌, ◌++◌, refl, Bool, true, false, ℤ, pos, negsuc}
+use Rattle.std.proofs.Common.{◌≡◌, ℕ, List, [], ◌∷◌, ◌++◌, refl, Bool, true, false, ℤ, pos, negsuc, lit<}
 use Rattle.std.specs.Prelude.{codes}
+use Rattle.std.proofs.lemmas.Fmt.{decimal_digit}
 use Rattle.svo_base.specs.GridShape.{GridShape}
 use Rattle.svo_base.specs.declared.shapes.Point.{Point}
 use Rattle.svo_base.specs.declared.shapes.Triangle.{Triangle}
@@ -19,6 +20,9 @@ point x y z = record { x = pos x; y = pos y; z = pos z }
 -- the grid from 0 with cells of side 1
 unit_grid : ℕ → GridShape
 unit_grid depth = record { depth = depth; origin = pos 0 ∷ pos 0 ∷ pos 0 ∷ []; cell = 1 }
+
+zeros : List ℕ
+zeros = 0 ∷ 0 ∷ 0 ∷ 0 ∷ 0 ∷ 0 ∷ 0 ∷ 0 ∷ []
 
 -- one triangle in the plane z = 0
 flat_mesh : Mesh
@@ -57,3 +61,63 @@ last_words = refl
 no_words : words_of [] 1 ≡ 0 ∷ []
 unfolding words_of below_of size_of mask_of base_of children_of
 no_words = refl
+
+-- a face that is not there fills nothing
+empty_cells : filled_codes (unit_grid 1) (triangles_of (record { vertices = flat_mesh.vertices; faces = [] })) ≡ []
+unfolding flat_mesh unit_grid point filled_codes is_filled triangles_of
+empty_cells = refl
+
+-- the same face twice, once turned round, fills the same cells
+turned_cells : filled_codes (unit_grid 1) (triangles_of (record { vertices = flat_mesh.vertices; faces = (0 ∷ 1 ∷ 2 ∷ []) ∷ (2 ∷ 1 ∷ 0 ∷ []) ∷ [] })) ≡ 0 ∷ 1 ∷ 2 ∷ []
+unfolding flat_mesh unit_grid point filled_codes is_filled has_good_candidate rows_of node_cube coordinate_of triangles_of
+turned_cells = refl
+
+-- far from the grid it fills none
+far_cells : filled_codes (record { depth = 1; origin = pos 10 ∷ pos 10 ∷ pos 10 ∷ []; cell = 1 }) (triangles_of flat_mesh) ≡ []
+unfolding flat_mesh point filled_codes is_filled has_good_candidate rows_of node_cube coordinate_of triangles_of
+far_cells = refl
+
+-- a point where eight cells meet fills all eight, since cubes are closed
+dot_cells : filled_codes (unit_grid 2) (triangles_of (dot_mesh 2)) ≡ 7 ∷ 14 ∷ 21 ∷ 28 ∷ 35 ∷ 42 ∷ 49 ∷ 56 ∷ []
+unfolding dot_mesh unit_grid point filled_codes is_filled has_good_candidate rows_of node_cube coordinate_of triangles_of
+dot_cells = refl
+
+-- a point on the grid's outer corner fills the last cell alone
+last_cell : filled_codes (unit_grid 2) (triangles_of (dot_mesh 4)) ≡ 63 ∷ []
+unfolding dot_mesh unit_grid point filled_codes is_filled has_good_candidate rows_of node_cube coordinate_of triangles_of
+last_cell = refl
+
+-- the widest grid, and a triangle across it
+across : Triangle
+across = record { a = low_point; b = high_point; c = mixed_point }
+  where
+    least : ℤ
+    least = negsuc 1073741823
+
+    greatest : ℤ
+    greatest = pos 1073741824
+
+    low_point : Point
+    low_point = record { x = least; y = least; z = least }
+
+    high_point : Point
+    high_point = record { x = greatest; y = greatest; z = greatest }
+
+    mixed_point : Point
+    mixed_point = record { x = greatest; y = least; z = greatest }
+
+all_eight : filled_codes (record { depth = 1; origin = negsuc 1073741823 ∷ negsuc 1073741823 ∷ negsuc 1073741823 ∷ []; cell = 2147483648 }) (across ∷ []) ≡ 0 ∷ 1 ∷ 2 ∷ 3 ∷ 4 ∷ 5 ∷ 6 ∷ 7 ∷ []
+unfolding across filled_codes is_filled has_good_candidate rows_of node_cube coordinate_of
+all_eight = refl
+
+-- the text of the flat triangle
+flat_text : plain_text flat_mesh ≡ codes "ply\nformat ascii 1.0\nelement vertex 3\nproperty int x\nproperty int y\nproperty int z\nelement face 1\nproperty list uchar int vertex_indices\nend_header\n0 0 0\n1 0 0\n0 1 0\n3 0 1 2\n"
+unfolding flat_mesh point plain_text plain_header vertex_line face_line
+flat_text = rw (decimal_digit 3 (lit< tt), decimal_digit 1 (lit< tt), decimal_digit 0 (lit< tt), decimal_digit 2 (lit< tt)) refl
+
+-- and its node file: name, depth and zero, origin, cell; the word 7; zero, one record, three cells, name of the end
+flat_image : image_of (unit_grid 1) (0 ∷ 1 ∷ 2 ∷ []) ≡
+    codes "SVOCUBE1" ++ (1 ∷ 0 ∷ 0 ∷ 0 ∷ 0 ∷ 0 ∷ 0 ∷ 0 ∷ []) ++ zeros ++ zeros ++ zeros ++ (1 ∷ 0 ∷ 0 ∷ 0 ∷ 0 ∷ 0 ∷ 0 ∷ 0 ∷ [])
+    ++ (7 ∷ 0 ∷ 0 ∷ 0 ∷ 0 ∷ 0 ∷ 0 ∷ 0 ∷ []) ++ zeros ++ (1 ∷ 0 ∷ 0 ∷ 0 ∷ 0 ∷ 0 ∷ 0 ∷ 0 ∷ []) ++ (3 ∷ 0 ∷ 0 ∷ 0 ∷ 0 ∷ 0 ∷ 0 ∷ 0 ∷ []) ++ codes "SVOCEND1"
+unfolding zeros unit_grid image_of header_of trailer_of words_of below_of size_of mask_of base_of children_of
+flat_image = refl
