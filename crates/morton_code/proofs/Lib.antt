@@ -1,4 +1,6 @@
 pub mod Coordinates
 pub mod Sides
+pub mod Heights
+pub mod RunsLemmas
 pub mod Blocks
 pub mod Spreads
