@@ -1,9 +1,8 @@
 -- The greatest run, by its height.
-use Rattle.std.proofs.Common.{◌≡◌, ℕ, suc, ◌+◌, ◌-◌, ◌*◌, ◌/◌, ◌%◌, ◌^◌, ◌<◌, ◌≤◌, min, sym, ap, ◌∙◌, arith, lit<}
+use Rattle.std.proofs.Common.{◌≡◌, ℕ, ◌+◌, ◌-◌, ◌*◌, ◌/◌, ◌%◌, ◌^◌, ◌<◌, ◌≤◌, min, sym, ap, ◌∙◌, arith, lit<}
 use Rattle.std.proofs.lemmas.Nat.{div-add-mod', div_below, pow-add}
 use Rattle.std.proofs.Math.Nat.{mul-mod_left, pow-le-pow_right}
-use Rattle.morton_code.specs.declared.runs.Run.{Run}
-use Rattle.morton_code.specs.Runs.{IsRun, IsGreatestRun}
+use Rattle.morton_code.specs.Runs.{IsGreatestRun}
 use Rattle.morton_code.proofs.Heights.{eights, eight_pos, exponent_within}
 
 -- a run is at most as high as the octree is deep

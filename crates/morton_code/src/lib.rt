@@ -3,10 +3,15 @@
 
 mod codes;
 mod cubes;
+mod laws;
 mod runs;
 
 pub use codes::{decode, encode};
 pub use cubes::cube_of;
+pub use laws::{
+    children_are_in_order, children_are_met_with_their_parent, children_cover_their_parent,
+    codes_name_parents, nodes_are_ranges, parents_halve_coordinates,
+};
 pub use runs::{Run, aligned_run};
 
 #[cfg(test)]
