@@ -19,12 +19,10 @@ mod tests {
     use super::*;
     use svo_base::{Cube, Grid};
 
-    /// The code by its definition, a digit at a time.
-    fn plain_code(digits: u32, x: u32, y: u32, z: u32) -> u64
-        requires { digits ≤ 20 }
-    {
-        let mut code = 0u64;
-        for digit in 0..digits {
+    /// The code by its definition, a bit of each coordinate at a time.
+    fn plain_code(x: u32, y: u32, z: u32) -> u64 {
+        let mut code = 0;
+        for digit in 0..20u32 {
             let bits = ((x >> digit) & 1) | ((y >> digit) & 1) << 1 | ((z >> digit) & 1) << 2;
             code |= u64::from(bits) << (3 * digit);
         }
@@ -41,21 +39,24 @@ mod tests {
             ((0, 1, 0), 2),
             ((0, 0, 1), 4),
             ((1048575, 1048575, 1048575), (1 << 60) - 1),
-            (
-                (699050, 349525, 1000000),
-                plain_code(20, 699050, 349525, 1000000),
-            ),
-            (
-                (65537, 131071, 262143),
-                plain_code(20, 65537, 131071, 262143),
-            ),
-            (
-                (1048574, 524288, 4095),
-                plain_code(20, 1048574, 524288, 4095),
-            ),
         ];
         for ((x, y, z), code) in cases {
             assert_eq!(rt; encode(x, y, z), code, "the code of ({x}, {y}, {z})");
+            assert_eq!(rt; decode(code), (x, y, z), "the coordinates of {code}");
+        }
+    }
+
+    #[test]
+    fn codes_by_the_definition(rt: HostRuntime) {
+        let cases = [
+            (699050, 349525, 1000000),
+            (65537, 131071, 262143),
+            (1048574, 524288, 4095),
+            (1, 1024, 1048575),
+        ];
+        for (x, y, z) in cases {
+            let code = encode(x, y, z);
+            assert_eq!(rt; code, plain_code(x, y, z), "the code of ({x}, {y}, {z})");
             assert_eq!(rt; decode(code), (x, y, z), "the coordinates of {code}");
         }
     }
@@ -72,6 +73,7 @@ mod tests {
             (shifted, 1, 4, [-5, 7, 106], [1, 13, 112]),
         ];
         for (grid, level, code, lo, hi) in cases {
+            assert!(rt; level <= grid.depth(), "a level of the grid");
             assert_eq!(rt;
                 cube_of(&grid, level, code),
                 Cube { lo, hi },
