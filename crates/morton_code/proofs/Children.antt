@@ -11,7 +11,8 @@ use Rattle.svo_base.specs.declared.shapes.Cube.{Cube}
 use Rattle.svo_base.specs.declared.shapes.Triangle.{Triangle}
 use Rattle.octree_specs.specs.Meeting.{weighted, Meets}
 use Rattle.octree_specs.specs.NodeCube.{coordinate_of, side_of, low_plane, node_cube}
-use Rattle.morton_code.specs.Laws.{NamesParent, HalvesCoordinates, AreRanges, AreInOrder, IsInside, CoverParent, MeetTogether}
+use Rattle.morton_code.specs.Laws.{NamesParent, HalvesCoordinates, IgnoresLeadingZeros, AreRanges, AreInOrder, IsInside, CoverParent, MeetTogether}
+use Rattle.morton_code.proofs.Coordinates.{coordinate_of_short, code_of_short}
 use Rattle.morton_code.proofs.Heights.{eight_pos}
 
 pub names_parent : NamesParent
@@ -41,6 +42,12 @@ pub halves_coordinates : HalvesCoordinates
 halves_coordinates = record {
   parent = λ axis level code. parent_coordinate axis level code;
   child = child_coordinate;
+}
+
+pub ignores_leading_zeros : IgnoresLeadingZeros
+ignores_leading_zeros = record {
+  code = code_of_short;
+  coordinate = coordinate_of_short;
 }
 
 -- a node's codes are a range

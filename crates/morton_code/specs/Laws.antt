@@ -4,7 +4,7 @@ use Rattle.svo_base.specs.GridShape.{GridShape}
 use Rattle.svo_base.specs.declared.shapes.Cube.{Cube}
 use Rattle.svo_base.specs.declared.shapes.Triangle.{Triangle}
 use Rattle.octree_specs.specs.Meeting.{low_of, high_of, Meets}
-use Rattle.octree_specs.specs.NodeCube.{coordinate_of, node_cube}
+use Rattle.octree_specs.specs.NodeCube.{code_of, coordinate_of, node_cube}
 
 -- a child's code without its last digit is its parent's, and the digit is the child's place among its siblings
 pub record NamesParent : Type 0 where
@@ -15,6 +15,11 @@ pub record NamesParent : Type 0 where
 pub record HalvesCoordinates : Type 0 where
   pub parent : (axis level code : ℕ) → coordinate_of axis level (code / 8) ≡ coordinate_of axis (level + 1) code / 2
   pub child : (axis level node place : ℕ) → axis < 3 → place < 8 → coordinate_of axis (level + 1) (8 * node + place) ≡ 2 * coordinate_of axis level node + place / 2 ^ axis % 2
+
+-- digits of 0 in front change neither a code nor its coordinates
+pub record IgnoresLeadingZeros : Type 0 where
+  pub code : (digits more x y z : ℕ) → digits ≤ more → x < 2 ^ digits → y < 2 ^ digits → z < 2 ^ digits → code_of more x y z ≡ code_of digits x y z
+  pub coordinate : (axis digits more code : ℕ) → digits ≤ more → code < 8 ^ digits → coordinate_of axis more code ≡ coordinate_of axis digits code
 
 -- the codes under a node, so many levels down, are a range
 abbrev pub AreRanges : Type 0

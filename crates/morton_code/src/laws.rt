@@ -1,7 +1,7 @@
 //! Laws of codes and of the cubes that they stand for. Each function does nothing: a caller has
 //! its `ensures`.
 
-ghost use Rattle.morton_code.specs.Laws.{NamesParent, HalvesCoordinates, AreRanges, AreInOrder, CoverParent, MeetTogether};
+ghost use Rattle.morton_code.specs.Laws.{NamesParent, HalvesCoordinates, IgnoresLeadingZeros, AreRanges, AreInOrder, CoverParent, MeetTogether};
 
 /// A code names its parent and its place among its siblings.
 pub fn codes_name_parents()
@@ -11,6 +11,11 @@ pub fn codes_name_parents()
 /// A parent has half the coordinates of its children.
 pub fn parents_halve_coordinates()
     ensures { HalvesCoordinates }
+{}
+
+/// A code of few digits is also the code of more digits, of which the first ones are 0.
+pub fn leading_zeros_change_nothing()
+    ensures { IgnoresLeadingZeros }
 {}
 
 /// The codes under a node are a range.

@@ -6,7 +6,9 @@ ghost use Rattle.morton_code.specs.Runs.{IsGreatestRun};
 /// The run of the codes of all cells under a node, named by the node's level and code.
 #[derive(Clone, Copy, Debug, PartialEq, Eq)]
 pub struct Run {
+    /// How many levels the node is below the root.
     pub level: u32,
+    /// The node's Morton code, of as many octal digits as its level.
     pub code: u64,
 }
 
