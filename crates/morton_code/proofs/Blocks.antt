@@ -1,6 +1,6 @@
 -- Numbers cut into blocks of so many bits that are put apart, each at the bottom of three times its room, and how shifts and masks go from blocks of one size to those of half or double that size.
-use Rattle.std.proofs.Common.{◌≡◌, ℕ, zero, suc, ◌+◌, ◌-◌, ◌*◌, ◌/◌, ◌%◌, ◌^◌, ◌<◌, ◌≤◌, refl, sym, ap, ◌∙◌, arith, bit_and, bit_or, lit<, zero-add, zero-mul, mod-eq_of_lt, div-add-mod', lt_of_lt_of_le, add-zero}
-use Rattle.std.proofs.Math.Nat.{pow-suc, pow-le-pow_right, mul-mod_left, add-mul-mod_self_right}
+use Rattle.std.proofs.Common.{◌≡◌, ℕ, zero, suc, ◌+◌, ◌-◌, ◌*◌, ◌/◌, ◌%◌, ◌^◌, ◌<◌, ◌≤◌, refl, ◌∙◌, arith, bit_and, bit_or, lit<, zero-add, zero-mul, mod-eq_of_lt, div-add-mod', lt_of_lt_of_le, add-zero}
+use Rattle.std.proofs.Math.Nat.{pow-le-pow_right, mul-mod_left, add-mul-mod_self_right}
 use Rattle.std.proofs.lemmas.Nat.{pow-add, pow_pos, and_block, or_block, or_shifted, or_comm, and_le_r, or_lt, and_mask, or_mod, mod_low, mod-pow-add, field_of, shr-shr, shr_high, mul-add-lt, shl_below, shr_below, mod_below}
 
 -- so many blocks of b bits

@@ -20,6 +20,11 @@ coordinate_of_zero axis (suc digits) =
     let none : 0 / 2 ^ axis ≡ 0 = zero-div (2 ^ axis) in
     rw (none, coordinate_of_zero axis digits) refl
 
+code_of_zero : (digits : ℕ) → code_of digits 0 0 0 ≡ 0
+unfolding code_of
+code_of_zero zero = refl
+code_of_zero (suc digits) = rw (code_of_zero digits) refl
+
 pub coordinate_of_short : (axis digits more code : ℕ) → digits ≤ more → code < 8 ^ digits → coordinate_of axis more code ≡ coordinate_of axis digits code
 unfolding coordinate_of
 coordinate_of_short axis zero more code fits below =
@@ -29,6 +34,18 @@ coordinate_of_short axis (suc digits) zero code fits below = absurd (omega arith
 coordinate_of_short axis (suc digits) (suc more) code fits below =
     let short : code / 8 < 8 ^ digits = omega (arith, pow-suc 8 digits) in
     ap (λ rest. code / 2 ^ axis % 2 + 2 * rest) (coordinate_of_short axis digits more (code / 8) (omega arith) short)
+
+pub code_of_short : (digits more x y z : ℕ) → digits ≤ more → x < 2 ^ digits → y < 2 ^ digits → z < 2 ^ digits → code_of more x y z ≡ code_of digits x y z
+unfolding code_of
+code_of_short zero more x y z fits x_below y_below z_below =
+    let no_x : x ≡ 0 = omega arith in
+    let no_y : y ≡ 0 = omega arith in
+    let no_z : z ≡ 0 = omega arith in
+    rw (no_x, no_y, no_z) (code_of_zero more)
+code_of_short (suc digits) zero x y z fits x_below y_below z_below = absurd (omega arith)
+code_of_short (suc digits) (suc more) x y z fits x_below y_below z_below =
+    let rest = code_of_short digits more (x / 2) (y / 2) (z / 2) (omega arith) (omega (arith, pow-suc 2 digits)) (omega (arith, pow-suc 2 digits)) (omega (arith, pow-suc 2 digits)) in
+    ap (λ above. x % 2 + 2 * (y % 2) + 4 * (z % 2) + 8 * above) rest
 
 -- the code of a node of a level of at most 20 has at most 60 bits
 pub code_fits : (level code : ℕ) → level ≤ 20 → code < 8 ^ level → code < 2 ^ 60

@@ -1,5 +1,5 @@
 -- How far the cubes of a level reach.
-use Rattle.std.proofs.Common.{◌%◌, [], ◌∷◌, All, refl, get_or, ◌≡◌, ℕ, ◌+◌, ◌-◌, ◌*◌, ◌^◌, ◌<◌, ◌≤◌, ℤ, pos, ◌+ℤ◌, ◌≤ℤ◌, unsigned_abs, subst, sym, ap, arith}
+use Rattle.std.proofs.Common.{◌%◌, [], ◌∷◌, All, refl, get_or, ◌≡◌, ℕ, ◌+◌, ◌-◌, ◌*◌, ◌^◌, ◌<◌, ◌≤◌, ℤ, pos, ◌+ℤ◌, unsigned_abs, subst, sym, ap, arith}
 use Rattle.std.proofs.lemmas.Int.{ints, to_z_pos, to_z-of_z, fits_signed_from_abs}
 use Rattle.svo_base.specs.GridShape.{GridShape, IsGrid}
 use Rattle.svo_base.specs.declared.shapes.Cube.{Cube}
@@ -45,10 +45,6 @@ shifted_side z cell depth halved level is_cell is_depth h solid narrow =
 pub plane_twice : (o : ℤ) (a b : ℕ) → o +ℤ pos (a + b) ≡ (o +ℤ pos a) +ℤ pos b
 plane_twice o a b = omega (arith, ints)
 
--- a step up is not a step down
-pub plane_upright : (o : ℤ) (a b : ℕ) → (o +ℤ pos a) ≤ℤ (o +ℤ pos (a + b))
-plane_upright o a b = omega (arith, ints)
-
 -- a plane is kept in 64 bits
 pub plane_kept : (z : ℤ) → unsigned_abs z ≤ 2 ^ 33 → to_z w64 (of_z w64 z) ≡ z
 plane_kept z near = to_z-of_z w64 z (fits_signed_from_abs w64 z (omega arith))
@@ -61,7 +57,9 @@ pub cube_from_offsets : (grid : GridShape) (level code side x y z : ℕ) →
     cube ≡ node_cube grid level code
 unfolding node_cube
 cube_from_offsets grid level code side x y z is_side is_x is_y is_z =
-    rw (is_x, is_y, is_z, is_side, plane_twice (get_or grid.origin 0 (pos 0)) (side_of grid level * coordinate_of 0 level code) (side_of grid level), plane_twice (get_or grid.origin 1 (pos 0)) (side_of grid level * coordinate_of 1 level code) (side_of grid level), plane_twice (get_or grid.origin 2 (pos 0)) (side_of grid level * coordinate_of 2 level code) (side_of grid level)) refl
+    let twice : (axis : ℕ) → plane_at grid.origin axis (side_of grid level * coordinate_of axis level code + side_of grid level) ≡ plane_at grid.origin axis (side_of grid level * coordinate_of axis level code) +ℤ pos (side_of grid level) =
+    λ axis. plane_twice (get_or grid.origin axis (pos 0)) (side_of grid level * coordinate_of axis level code) (side_of grid level) in
+    rw (is_x, is_y, is_z, is_side, twice 0, twice 1, twice 2) refl
 
 -- three numbers in a row
 pub all_of_three : (P : ℤ → Type 0) (x y z : ℤ) → P x → P y → P z → All P (x ∷ y ∷ z ∷ [])

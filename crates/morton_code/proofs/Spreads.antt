@@ -1,7 +1,7 @@
 -- What the masks of `spread` and `gather` compute.
-use Rattle.std.proofs.Common.{◌≡◌, ℕ, zero, suc, ◌+◌, ◌-◌, ◌*◌, ◌/◌, ◌%◌, ◌^◌, ◌<◌, ◌≤◌, refl, sym, ap, ◌∙◌, arith, bit_and, bit_or, lit<, lit≤, mod-eq_of_lt}
+use Rattle.std.proofs.Common.{◌≡◌, ℕ, zero, suc, ◌+◌, ◌*◌, ◌/◌, ◌%◌, ◌^◌, ◌<◌, ◌≤◌, refl, sym, ap, ◌∙◌, arith, bit_and, bit_or, lit<, lit≤, mod-eq_of_lt}
 use Rattle.std.proofs.Math.Nat.{mod-mod}
-use Rattle.std.proofs.lemmas.Nat.{and_block, or_block, or_lt, or_shifted, or_comm, and_le_r, and_mask, and_mod, or_mod, shr-shr}
+use Rattle.std.proofs.lemmas.Nat.{and_block, or_block, or_lt, or_shifted, or_comm, and_le_r, and_mask, and_mod, or_mod}
 use Rattle.octree_specs.specs.NodeCube.{code_of, coordinate_of}
 use Rattle.morton_code.proofs.Coordinates.{coordinate_below, code_below}
 use Rattle.morton_code.proofs.Blocks.{blocks, ones, halves_apart, halves_together}

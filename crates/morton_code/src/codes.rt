@@ -32,8 +32,8 @@ pub fn decode(code: u64) -> (u32, u32, u32)
     (gather(code), gather(code >> 1), gather(code >> 2))
 }
 
-/// The 20 bits of a number, three places apart. Each step halves the blocks that stay together and
-/// moves the upper halves up.
+/// The 20 bits of a number, three places apart (a dilated integer: Raman and Wise 2008). Each step
+/// halves the blocks that stay together and moves the upper halves up.
 fn spread(bits: u32) -> u64
     requires { bits < 2 ^ 20 }
     ensures { result ≡ code_of 20 bits 0 0 }

@@ -1,4 +1,3 @@
-use Rattle.std.proofs.Common.{sym}
 use Rattle.morton_code.proofs.Spreads.{encode_is}
 use Rattle.morton_code.proofs.Coordinates.{code_below, x_of_code, y_of_code, z_of_code}
 use Rattle.morton_code.proofs.codes.encode.Goals as goal

@@ -1,4 +1,4 @@
-use Rattle.std.proofs.Common.{◌∙◌, ◌*◌, ap, arith}
+use Rattle.std.proofs.Common.{◌∙◌, ◌*◌, ap}
 use Rattle.morton_code.proofs.Coordinates.{code_fits, coordinate_in_level, coordinate_of_short}
 use Rattle.morton_code.proofs.Sides.{cube_from_offsets, is_shallow}
 use Rattle.morton_code.proofs.cubes.cube_of.Goals as goal
