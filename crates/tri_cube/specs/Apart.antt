@@ -1,4 +1,4 @@
--- When no weights can be good: a sum of rows with factors that are not negative, which good weights clear with them, has only negative numbers.
+-- When no weights can be good: weights that clear some rows clear each sum of them, with factors that are not negative, and no good weights clear a row of negative numbers.
 use Rattle.std.specs.Prelude.{◌≡◌, Bool, false, ◌&&◌, List, ◌++◌, ℤ, pos, ◌+ℤ◌, ◌-ℤ◌, ◌*ℤ◌, int_lt}
 use Rattle.svo_base.specs.declared.shapes.Point.{Point}
 use Rattle.svo_base.specs.declared.shapes.Vector.{Vector}
@@ -6,9 +6,11 @@ use Rattle.octree_specs.specs.Vectors.{vector}
 use Rattle.octree_specs.specs.Meeting.{is_good}
 use Rattle.tri_cube.specs.Sides.{unit_rows}
 
+-- all three numbers are below 0
 abbrev pub is_negative : Vector → Bool
 is_negative v = int_lt v.x (pos 0) && int_lt v.y (pos 0) && int_lt v.z (pos 0)
 
+-- a row times a factor, and the sum of two rows
 abbrev pub times_of : ℤ → Vector → Vector
 times_of factor v = vector (factor *ℤ v.x) (factor *ℤ v.y) (factor *ℤ v.z)
 

@@ -6,9 +6,11 @@ use Rattle.svo_base.specs.declared.shapes.Vector.{Vector}
 use Rattle.octree_specs.specs.Vectors.{vector}
 use Rattle.octree_specs.specs.Meeting.{above_plane, below_plane, low_of, high_of}
 
+-- the rows that weights clear where none of them is negative
 abbrev pub unit_rows : List Vector
 unit_rows = vector (pos 1) (pos 0) (pos 0) ∷ vector (pos 0) (pos 1) (pos 0) ∷ vector (pos 0) (pos 0) (pos 1) ∷ []
 
+-- a row for each plane of the cube, which weights clear where they name a point on its inner side
 unfoldable pub sides_of : Triangle → Cube → List Vector
 sides_of t cube =
     above_plane (λ p. p.x) t (low_of cube 0) ∷ below_plane (λ p. p.x) t (high_of cube 0)
