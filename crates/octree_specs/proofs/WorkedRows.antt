@@ -1,14 +1,13 @@
 -- Small examples, computed from the definitions alone: what each definition says of a case that was worked out by hand.
-use Rattle.std.proofs.Common.{◌≡◌, ℕ, List, [], ◌∷◌, ◌++◌, refl, Bool, true, false, ℤ, pos, negsuc, lit<}
+use Rattle.std.proofs.Common.{◌≡◌, ℕ, List, [], ◌∷◌, ◌++◌, refl, false, ℤ, pos, negsuc, lit<}
 use Rattle.std.specs.Prelude.{codes}
 use Rattle.std.proofs.lemmas.Fmt.{decimal_digit}
 use Rattle.svo_base.specs.GridShape.{GridShape}
 use Rattle.svo_base.specs.declared.shapes.Point.{Point}
 use Rattle.svo_base.specs.declared.shapes.Triangle.{Triangle}
-use Rattle.svo_base.specs.declared.shapes.Cube.{Cube}
 use Rattle.octree_specs.specs.Mesh.{Mesh, triangles_of}
 use Rattle.octree_specs.specs.Meeting.{rows_of, has_good_candidate}
-use Rattle.octree_specs.specs.NodeCube.{coordinate_of, code_of, node_cube}
+use Rattle.octree_specs.specs.NodeCube.{coordinate_of, node_cube}
 use Rattle.octree_specs.specs.NodeWords.{children_of, size_of, mask_of, base_of, below_of, words_of}
 use Rattle.octree_specs.specs.NodeFile.{header_of, trailer_of, image_of}
 use Rattle.octree_specs.specs.Filling.{is_filled, filled_codes}

@@ -1,5 +1,5 @@
 -- A triangle mesh: points, and faces that name their corners by number.
-use Rattle.std.specs.Prelude.{ℕ, ℤ, pos, List, [], ◌∷◌, map}
+use Rattle.std.specs.Prelude.{ℕ, pos, List, [], ◌∷◌}
 use Rattle.std.specs.List.{flat_map, slice_index_or}
 use Rattle.svo_base.specs.declared.shapes.Point.{Point}
 use Rattle.svo_base.specs.declared.shapes.Triangle.{Triangle}

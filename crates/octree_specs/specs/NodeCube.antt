@@ -1,5 +1,5 @@
 -- The cubes of an octree's nodes. A node of level l is numbered by a Morton code of l octal digits; its child i is numbered `8 * code + i`, and bits 0, 1, 2 of i say whether the child is the upper one on x, y, z (Baert, Lagae, Dutré 2013, for the order of Morton codes).
-use Rattle.std.specs.Prelude.{ℕ, ◌+◌, ◌-◌, ◌*◌, ◌/◌, ◌%◌, ◌^◌, zero, suc, ℤ, pos, ◌+ℤ◌, List, [], ◌∷◌}
+use Rattle.std.specs.Prelude.{ℕ, ◌+◌, ◌-◌, ◌*◌, ◌/◌, ◌%◌, ◌^◌, zero, suc, ℤ, pos, ◌+ℤ◌, [], ◌∷◌}
 use Rattle.std.specs.List.{slice_index_or}
 use Rattle.svo_base.specs.GridShape.{GridShape}
 use Rattle.svo_base.specs.declared.shapes.Cube.{Cube}

@@ -1,5 +1,5 @@
 -- The node file of a grid and a set of its cells. All numbers are little-endian.
-use Rattle.std.specs.Prelude.{◌≡◌, ℕ, List, [], ◌++◌, length, codes}
+use Rattle.std.specs.Prelude.{◌≡◌, ℕ, List, ◌++◌, length, codes}
 use Rattle.std.specs.List.{flat_map}
 use Rattle.std.specs.Int.{w32, w64, cast_unsigned, to_le_bytes}
 use Rattle.svo_base.specs.GridShape.{GridShape, IsGrid}

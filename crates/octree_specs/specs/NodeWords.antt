@@ -1,5 +1,5 @@
 -- The record words of a set of cells, in the order in which Baert, Lagae and Dutré (2013) put out nodes: children before their parent, siblings together. A set is the ascending list of its codes. A node is named by its height, which is the number of levels from it down to the cells, and its code.
-use Rattle.std.specs.Prelude.{◌≡◌, ℕ, zero, suc, ◌+◌, ◌*◌, ◌/◌, ◌%◌, ◌^◌, ◌<◌, ◌==◌, Bool, List, [], ◌∷◌, ◌++◌, map, filter, All}
+use Rattle.std.specs.Prelude.{ℕ, zero, suc, ◌+◌, ◌*◌, ◌/◌, ◌%◌, ◌^◌, ◌<◌, ◌==◌, Bool, List, [], ◌∷◌, ◌++◌, map, filter, All}
 use Rattle.std.specs.List.{list_any, flat_map, sum_by, range_with_len}
 use Rattle.std.specs.List.Sorted.{IsStrictlyIncreasing}
 

@@ -1,5 +1,5 @@
 -- The plain form of a mesh text: ASCII PLY 1.0 with one fixed header, three whole coordinates a vertex, three corners a face, single spaces and LF.
-use Rattle.std.specs.Prelude.{◌≡◌, ℕ, ◌^◌, ◌<◌, ◌≤◌, List, [], ◌∷◌, ◌++◌, length, unsigned_abs, All, codes}
+use Rattle.std.specs.Prelude.{◌≡◌, ℕ, ◌^◌, ◌<◌, ◌≤◌, List, ◌++◌, length, unsigned_abs, All, codes}
 use Rattle.std.specs.List.{flat_map}
 use Rattle.std.specs.Fmt.{decimal, signed_decimal}
 use Rattle.svo_base.specs.declared.shapes.Point.{Point}

@@ -1,5 +1,5 @@
 -- Triples of whole numbers, and their products.
-use Rattle.std.specs.Prelude.{ℤ, pos, ◌+ℤ◌, ◌-ℤ◌, ◌*ℤ◌, neg_ℤ, ◌≡◌, ℕ, ◌≤◌, unsigned_abs, Bool, ◌&&◌}
+use Rattle.std.specs.Prelude.{ℤ, pos, ◌+ℤ◌, ◌-ℤ◌, ◌*ℤ◌, neg_ℤ, ℕ, ◌≤◌, unsigned_abs, Bool, ◌&&◌}
 use Rattle.std.specs.Ordering.{int_eq}
 use Rattle.svo_base.specs.declared.shapes.Vector.{Vector}
 
