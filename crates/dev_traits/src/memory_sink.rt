@@ -12,7 +12,9 @@ use std::marker::Model;
 /// A call of `put` that is refused, counted from 1, and how many bytes of its piece are taken first.
 #[derive(Clone, Copy, Debug, PartialEq, Eq)]
 pub struct PartFail {
+    /// Which call, counted from 1. Of two entries for a call the first counts.
     pub call: u64,
+    /// How many bytes of its piece are taken.
     pub taken: u64,
 }
 

@@ -1,3 +1,3 @@
 pub mod Integers
 pub mod SignedTerms
-pub mod WorkedRows
+pub mod WorkedCases

@@ -45,7 +45,7 @@ above_plane at t plane = vector (at t.a -ℤ plane) (at t.b -ℤ plane) (at t.c 
 abbrev pub below_plane : (Point → ℤ) → Triangle → ℤ → Vector
 below_plane at t plane = vector (plane -ℤ at t.a) (plane -ℤ at t.b) (plane -ℤ at t.c)
 
--- the nine rows: weights name a point of the cube where their product with no row is below 0
+-- the nine rows: weights that are not all zero name a point of the cube where their product with no row is below 0
 unfoldable pub rows_of : Triangle → Cube → List Vector
 rows_of t cube =
     vector (pos 1) (pos 0) (pos 0) ∷ vector (pos 0) (pos 1) (pos 0) ∷ vector (pos 0) (pos 0) (pos 1)
@@ -61,7 +61,7 @@ abbrev pub candidates_of : List Vector → List Vector
 candidates_of [] = []
 candidates_of (a ∷ rows) = candidates_with a rows ++ candidates_of rows
 
--- a candidate is good where it isn't zero and its product with no row is below 0
+-- good weights: not all zero, and no product with a row is negative
 abbrev pub is_good : List Vector → Vector → Bool
 is_good rows w = not (is_zero_vector w) && list_all (λ row. int_le (pos 0) (dot_of w row)) rows
 

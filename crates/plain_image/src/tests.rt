@@ -3,7 +3,7 @@ ghost use Rattle.std.specs.Bool.{OnTrue};
 ghost use Rattle.std.specs.List.Sorted.{IsStrictlyIncreasing};
 
 use crate::node_image;
-use svo_base::Grid;
+use svo_base::{Grid, MAX_DEPTH};
 
 /// The names at a file's ends, as little-endian numbers.
 const NAME: u64 = 0x3145_4255_434f_5653;
@@ -19,7 +19,7 @@ fn ascends(codes: &[u64]) -> bool
 
 /// How many cells an octree of this depth has.
 fn cell_count(depth: u32) -> u64
-    requires { depth ≤ 12 }
+    requires { depth ≤ MAX_DEPTH }
     ensures { result ≡ 8 ^ depth }
 {
     1 << (3 * depth)
@@ -27,7 +27,7 @@ fn cell_count(depth: u32) -> u64
 
 /// Whether all codes are those of cells of an octree of this depth.
 fn are_inside(codes: &[u64], depth: u32) -> bool
-    requires { depth ≤ 12 }
+    requires { depth ≤ MAX_DEPTH }
     ensures { OnTrue result (All (λ code. code < 8 ^ depth) codes.now) }
 {
     let cells = cell_count(depth);

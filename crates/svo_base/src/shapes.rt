@@ -1,6 +1,6 @@
 //! Plain shapes in whole-number coordinates.
 
-/// A point of a mesh.
+/// A point of a mesh, in whole units.
 #[derive(Clone, Copy, Debug, PartialEq, Eq)]
 pub struct Point {
     pub x: i32,
@@ -16,7 +16,8 @@ pub struct Triangle {
     pub c: Point,
 }
 
-/// A closed cube: all points from `lo` to `hi` on each of the axes x, y, z, both planes included.
+/// A closed cube: all points from `lo` to `hi` on each of the axes x, y, z, both planes included. The
+/// planes are in the units of the mesh.
 #[derive(Clone, Copy, Debug, PartialEq, Eq)]
 pub struct Cube {
     pub lo: [i64; 3],

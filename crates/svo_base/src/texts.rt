@@ -30,7 +30,7 @@ impl Words {
         }
     }
 
-    /// Adds a word at the end. For want of memory all is as before.
+    /// Appends a word. If memory runs out, the list is unchanged.
     pub fn push(&mut self, word: &str) -> Result<(), AllocError>
         ensures ok { OnOk result (self.new ≡ self.old ++ word.now ∷ []) }
         ensures err { OnErr result (self.new ≡ self.old) }

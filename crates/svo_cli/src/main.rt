@@ -13,6 +13,7 @@ use svo_top::{Status, run};
 /// The exit status where the system does not give the words.
 const NO_WORDS: u8 = 8;
 
+/// Runs the words after the program's name over the standard streams, and ends with the status's code.
 fn main(rt: HostRuntime) -> ExitCode {
     let words = match host_words(&rt) {
         Err(error) => return ExitCode::from(words_code(&error)),

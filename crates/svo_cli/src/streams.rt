@@ -14,6 +14,7 @@ pub struct HostInput<R> {
 }
 
 impl<R> HostInput<R> {
+    /// The stream as a source that has counted no fault.
     pub fn new(inner: R) -> HostInput<R> {
         HostInput { inner, faults: 0 }
     }
@@ -43,6 +44,7 @@ pub struct HostOutput<W> {
 }
 
 impl<W> HostOutput<W> {
+    /// The stream as a sink that has counted no fault.
     pub fn new(inner: W) -> HostOutput<W> {
         HostOutput { inner, faults: 0 }
     }

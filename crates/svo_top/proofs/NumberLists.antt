@@ -1,14 +1,15 @@
 -- Numbers with commas between them, taken off the front one at a time.
-use Rattle.std.proofs.Common.{◌≡◌, ℕ, zero, suc, ◌+◌, ◌<◌, ◌≤◌, Bool, true, false, ◌&&◌, ◌||◌, List, [], ◌∷◌, length, map, take, drop, Option, None, Some, ℤ, pos, neg_ℤ, arith, refl, sym, ap, ◌∙◌, eqb, ltb, cond}
-use Rattle.std.specs.Option.{option_map, option_and_then}
-use Rattle.std.specs.List.{list_all, list_any, slice_split, onto_first, position, position_or_len}
+use Rattle.std.proofs.Common.{◌≡◌, ℕ, suc, ◌+◌, ◌<◌, ◌≤◌, Bool, true, false, ◌&&◌, List, [], ◌∷◌, length, map, take, drop, Option, None, Some, ℤ, arith, refl, sym, ap, ◌∙◌, cond}
+use Rattle.std.specs.Option.{option_map}
+use Rattle.std.specs.List.{list_all, slice_split, position_or_len}
 use Rattle.std.specs.Char.{is_ascii_digit}
 use Rattle.std.specs.Prelude.{◌==◌, if◌then◌else◌, nat_lt, nat_le}
 use Rattle.std.proofs.Common.{inl, inr}
 use Rattle.std.proofs.lemmas.Bool.{cases_Bool, ltb-true, ltb-false}
 use Rattle.std.proofs.lemmas.List.Splits.{slice_split_first, length-slice_split}
 use Rattle.std.proofs.lemmas.Bool.Decides.{nat_tests}
-use Rattle.svo_top.specs.Form.{is_comma, number_of, numbers_of, number_before, all_some, digits_of, ◌>>=◌}
+use Rattle.svo_top.specs.Form.{is_comma, number_of, numbers_of, all_some, digits_of, ◌>>=◌}
+use Rattle.svo_top.specs.NumberFronts.{number_before}
 
 -- the numbers of the parts, if there are so many parts
 abbrev counted : ℕ → List (List ℕ) → Option (List ℤ)

@@ -1,5 +1,5 @@
 -- One put of a whole line.
-use Rattle.std.proofs.Common.{◌≡◌, ℕ, ◌+◌, ◌≤◌, List, length, take, Result, Ok, Err, arith}
+use Rattle.std.proofs.Common.{ℕ, List, length, Result, Ok, Err, arith}
 use Rattle.std.proofs.lemmas.List.{take_all}
 use Rattle.dev_traits.specs.Faults.{HasCause}
 use Rattle.dev_traits.specs.Contents.{PutsPiece}

@@ -6,11 +6,10 @@ use Rattle.svo_top.specs.Ranges.{range_of}
 use Rattle.svo_top.specs.Lines.{Says, stop_line}
 use Rattle.svo_top.specs.declared.form.Command.{Command}
 use Rattle.svo_top.specs.declared.outcome.Status.{Status}
-use Rattle.svo_top.specs.declared.outcome.Status.TheVariants.{Done, Usage, Range, Device}
+use Rattle.svo_top.specs.declared.outcome.Status.TheVariants.{Done, Usage, Range, Device, Memory}
 use Rattle.svo_top.specs.declared.outcome.UsageKind.{UsageKind}
 use Rattle.svo_top.specs.declared.outcome.RangeFault.{RangeFault}
 use Rattle.svo_top.specs.declared.outcome.Device.{Device as DeviceName}
-use Rattle.svo_top.specs.declared.outcome.Device.TheVariants.{Write}
 
 -- a usage fault comes exactly where the words are not in the form, and is theirs
 pub record UsageCauses (words : List (List ℕ)) (status : Status) : Type 0 where
@@ -26,14 +25,14 @@ pub record RangeCauses (words : List (List ℕ)) (status : Status) : Type 0 wher
 abbrev pub DeviceCause : DeviceName → Change → Status → Type 0
 DeviceCause device change status = status ≡ Device device → IsFaulted change
 
--- nothing is put out but by a run that is done or whose output failed
-abbrev pub KeepsOutput : Change → Status → Type 0
-KeepsOutput out status = status ≢ Done → status ≢ Device Write → IsKept out
+-- where the words are wrong nothing is read
+abbrev pub KeepsInput : Change → Status → Type 0
+KeepsInput input status = (kind : UsageKind) → status ≡ Usage kind → IsKept input
 
--- nothing is read before the words and their ranges are in order
-pub record KeepsInput (input : Change) (status : Status) : Type 0 where
-  pub usage : (kind : UsageKind) → status ≡ Usage kind → IsKept input
-  pub range : (fault : RangeFault) → status ≡ Range fault → IsKept input
+-- where the words are wrong, or memory runs out, nothing is put out
+pub record KeepsOutput (out : Change) (status : Status) : Type 0 where
+  pub usage : (kind : UsageKind) → status ≡ Usage kind → IsKept out
+  pub memory : status ≡ Memory → IsKept out
 
 -- a run that stops says why, in one line
 abbrev pub SaysWhy : Change → Status → Type 0

@@ -1,5 +1,5 @@
 -- What the ending of a command means for the status and the line of the run.
-use Rattle.std.specs.Prelude.{◌≡◌, ℕ, List, ⊤}
+use Rattle.std.specs.Prelude.{ℕ, List, ⊤}
 use Rattle.dev_traits.specs.Change.{Change}
 use Rattle.svo_top.specs.Build.{Built}
 use Rattle.svo_top.specs.Lines.{stop_line, built_line}

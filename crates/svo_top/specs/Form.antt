@@ -1,6 +1,6 @@
 -- The form of a command line: the command's name, and then its options in a set order, each `--name value` or `--name=value`.
-use Rattle.std.specs.Prelude.{◌≡◌, ℕ, ◌+◌, ◌==◌, nat_eq, nat_lt, nat_le, Bool, true, false, not, ◌&&◌, if◌then◌else◌, List, [], ◌∷◌, ◌++◌, length, take, drop, map, slice_index, ℤ, pos, neg_ℤ, Option, None, Some, Result, Ok, Err, codes}
-use Rattle.std.specs.List.{list_all, starts_with, slice_split, position}
+use Rattle.std.specs.Prelude.{ℕ, ◌+◌, ◌==◌, nat_eq, nat_lt, nat_le, Bool, false, not, ◌&&◌, if◌then◌else◌, List, [], ◌∷◌, length, drop, map, slice_index, ℤ, pos, neg_ℤ, Option, None, Some, Result, Err, codes}
+use Rattle.std.specs.List.{list_all, starts_with, slice_split}
 use Rattle.std.specs.Option.{option_map, option_and_then, ok_or}
 use Rattle.std.specs.Str.{bytes_eq}
 use Rattle.std.specs.Str.Parse.{digits_value}
@@ -39,13 +39,6 @@ is_comma byte = byte == 44
 unfoldable pub numbers_of : ℕ → List ℕ → Option (List ℤ)
 numbers_of count text =
     let parts = slice_split is_comma text in if length parts == count then all_some (map number_of parts) else None
-
--- the number before the first comma, and the text after that comma
-unfoldable pub number_before : List ℕ → Option (ℤ × List ℕ)
-number_before text = do
-  at ← position is_comma text
-  number ← number_of (take at text)
-  Some (number, drop (at + 1) text)
 
 -- the value in a word `name=value`; it is not empty
 unfoldable pub joined_value : List ℕ → List ℕ → Option (List ℕ)

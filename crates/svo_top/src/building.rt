@@ -1,12 +1,11 @@
 //! The command `build`: a mesh in, a node file out.
 
-ghost use Rattle.std.specs.Prelude.{◌≡◌, ◌≤◌, Ok};
+ghost use Rattle.std.specs.Prelude.{◌≡◌};
 ghost use Rattle.dev_traits.specs.Change.{change_of};
 ghost use Rattle.svo_top.specs.Build.{BuildMeans};
-ghost use Rattle.svo_top.specs.Causes.{DeviceCause, KeepsOutput, KeepsInput};
+ghost use Rattle.svo_top.specs.Causes.{DeviceCause};
 ghost use Rattle.svo_top.specs.Endings.{status_of, EndsBuild};
 ghost use Rattle.svo_top.specs.Ranges.{RangeIs, grid_of_words};
-ghost use Rattle.svo_top.specs.Reading.{IsWhole};
 
 use crate::form::BuildWords;
 use crate::input_text::{TextStop, read_text};
@@ -27,12 +26,14 @@ pub fn build<I: ByteSource, O: ByteSink>(
     out: &mut O,
 ) -> Ending
     ensures range { RangeIs (grid_of_words job.now) (status_of result) }
-    ensures ends { EndsBuild job.now (change_of I.rest I.faults input.old input.new) (change_of O.written O.faults out.old out.new) result }
-    ensures means { BuildMeans job.now (change_of I.rest I.faults input.old input.new) (change_of O.written O.faults out.old out.new) (status_of result) }
+    ensures ends { EndsBuild job.now
+        (change_of I.rest I.faults input.old input.new)
+        (change_of O.written O.faults out.old out.new) result }
+    ensures means { BuildMeans job.now
+        (change_of I.rest I.faults input.old input.new)
+        (change_of O.written O.faults out.old out.new) (status_of result) }
     ensures read { DeviceCause Device.Read (change_of I.rest I.faults input.old input.new) (status_of result) }
     ensures write { DeviceCause Device.Write (change_of O.written O.faults out.old out.new) (status_of result) }
-    ensures keeps_input { KeepsInput (change_of I.rest I.faults input.old input.new) (status_of result) }
-    ensures keeps_output { KeepsOutput (change_of O.written O.faults out.old out.new) (status_of result) }
 {
     let grid = match Grid::new(job.depth, job.origin, job.cell) {
         Err(fault) => return Ending::Stopped(Status::Range(RangeFault::Grid(fault))),

@@ -4,6 +4,7 @@
 //! as `--name value` or `--name=value`.
 
 ghost use Rattle.std.specs.Prelude.{◌≡◌, ◌≤◌, List, None, Some, IfSome, length, drop, MatchOption};
+ghost use Rattle.svo_top.specs.BuildValues.{texts_of};
 ghost use Rattle.svo_top.specs.Form.{form_of, build_texts_of, build_words_of, take_option, take_separate, joined_value, is_separate};
 
 use crate::numbers::{number, three_numbers};
@@ -16,11 +17,14 @@ pub enum Command {
     Build(BuildWords),
 }
 
-/// The values of `build`.
+/// The values of `build`, whatever their ranges.
 #[derive(Clone, Copy, Debug, PartialEq, Eq)]
 pub struct BuildWords {
+    /// How often the grid is halved.
     pub depth: i64,
+    /// The lower corner of the grid.
     pub origin: [i64; 3],
+    /// The side of a cell.
     pub cell: i64,
 }
 
@@ -32,9 +36,9 @@ struct BuildValues<'a> {
     cell: &'a [u8],
 }
 
-/// The command that the words are, or why they are none: `Command` where there is no first word or it
-/// names no command, `Options` where the others are not in its form, `Value` where they are and a
-/// value is not of its kind.
+/// The command that the words are, or why they are none: `Command` where the first word is missing
+/// or unknown, `Options` where the others are not in its form, `Value` where they are and a value is
+/// not of its kind.
 #[tactic(auto, unfolding(crate::specs::Form::form_of))]
 pub fn read_words(words: &Words) -> Result<Command, UsageKind>
     ensures { result ≡ form_of words.now }
@@ -42,20 +46,17 @@ pub fn read_words(words: &Words) -> Result<Command, UsageKind>
     if words.is_empty() || words.get(0) != "build" {
         return Err(UsageKind::Command);
     }
-    match build_values(words) {
-        None => Err(UsageKind::Options),
-        Some(values) => match build_words(&values) {
-            None => Err(UsageKind::Value),
-            Some(job) => Ok(Command::Build(job)),
-        },
-    }
+    let values = build_values(words).ok_or(UsageKind::Options)?;
+    let job = build_words(&values).ok_or(UsageKind::Value)?;
+    Ok(Command::Build(job))
 }
 
 /// The values of the options of `build`, which are the words after the first.
 #[tactic(auto, unfolding(crate::specs::Form::build_texts_of))]
 fn build_values(words: &Words) -> Option<BuildValues<'_>>
     requires { 1 ≤ length words.now }
-    ensures { MatchOption result (build_texts_of (drop 1 words.now) ≡ None) (λ v. build_texts_of (drop 1 words.now) ≡ Some (record { depth = v.depth.now; origin = v.origin.now; cell = v.cell.now })) }
+    ensures { MatchOption result (build_texts_of (drop 1 words.now) ≡ None)
+        (λ v. build_texts_of (drop 1 words.now) ≡ Some (texts_of v)) }
 {
     let (depth, at) = take_option(words, 1, "--depth")?;
     let (origin, at) = take_option(words, at, "--origin")?;
@@ -73,7 +74,7 @@ fn build_values(words: &Words) -> Option<BuildValues<'_>>
 /// The numbers that the values write.
 #[tactic(auto, unfolding(crate::specs::Form::build_words_of))]
 fn build_words(values: &BuildValues) -> Option<BuildWords>
-    ensures { result ≡ build_words_of (record { depth = values.now.depth.now; origin = values.now.origin.now; cell = values.now.cell.now }) }
+    ensures { result ≡ build_words_of (texts_of values.now) }
 {
     Some(BuildWords {
         depth: number(values.depth)?,
@@ -87,7 +88,8 @@ fn build_words(values: &BuildValues) -> Option<BuildWords>
 fn take_option<'a>(words: &'a Words, at: usize, name: &str) -> Option<(&'a [u8], usize)>
     requires { at ≤ length words.now }
     ensures within { IfSome result (λ r. r.1 ≤ length words.now) }
-    ensures value { MatchOption result (take_option name.now (drop at words.now) ≡ None) (λ r. take_option name.now (drop at words.now) ≡ Some (record { value = r.0.now; rest = drop r.1 words.now })) }
+    ensures value { MatchOption result (take_option name.now (drop at words.now) ≡ None)
+        (λ r. take_option name.now (drop at words.now) ≡ Some (record { value = r.0.now; rest = drop r.1 words.now })) }
 {
     if at >= words.len() {
         return None;
@@ -96,17 +98,16 @@ fn take_option<'a>(words: &'a Words, at: usize, name: &str) -> Option<(&'a [u8],
     if word == name {
         return take_separate(words, at + 1);
     }
-    match joined_value(word.as_bytes(), name.as_bytes()) {
-        None => None,
-        Some(value) => Some((value, at + 1)),
-    }
+    let value = joined_value(word.as_bytes(), name.as_bytes())?;
+    Some((value, at + 1))
 }
 
 /// The value in a word of its own at a place, and the place after it.
 fn take_separate(words: &Words, at: usize) -> Option<(&[u8], usize)>
     requires { at ≤ length words.now }
     ensures within { IfSome result (λ r. r.1 ≤ length words.now) }
-    ensures value { MatchOption result (take_separate (drop at words.now) ≡ None) (λ r. take_separate (drop at words.now) ≡ Some (record { value = r.0.now; rest = drop r.1 words.now })) }
+    ensures value { MatchOption result (take_separate (drop at words.now) ≡ None)
+        (λ r. take_separate (drop at words.now) ≡ Some (record { value = r.0.now; rest = drop r.1 words.now })) }
 {
     if at >= words.len() {
         return None;

@@ -4,7 +4,8 @@ ghost use Rattle.std.specs.Prelude.{◌≡◌, ◌<◌, ◌≤◌, ◌^◌, true
 ghost use Rattle.std.specs.List.{list_all, position};
 ghost use Rattle.std.specs.Char.{is_ascii_digit};
 ghost use Rattle.std.specs.Str.Parse.{digits_value};
-ghost use Rattle.svo_top.specs.Form.{digits_of, number_of, numbers_of, number_before, is_comma};
+ghost use Rattle.svo_top.specs.Form.{digits_of, number_of, numbers_of, is_comma};
+ghost use Rattle.svo_top.specs.NumberFronts.{number_before};
 
 /// The number of an optional `-` and 1 to 18 digits.
 #[tactic(auto, unfolding(crate::specs::Form::number_of))]
@@ -12,14 +13,8 @@ pub fn number(text: &[u8]) -> Option<i64>
     ensures { result ≡ number_of text.now }
 {
     match text {
-        [b'-', rest @ ..] => match digits(rest) {
-            None => None,
-            Some(size) => Some(-(size as i64)),
-        },
-        _ => match digits(text) {
-            None => None,
-            Some(size) => Some(size as i64),
-        },
+        [b'-', rest @ ..] => digits(rest).map(|size| -(size as i64)),
+        _ => digits(text).map(|size| size as i64),
     }
 }
 
@@ -27,30 +22,20 @@ pub fn number(text: &[u8]) -> Option<i64>
 pub fn three_numbers(text: &[u8]) -> Option<[i64; 3]>
     ensures { result ≡ numbers_of 3 text.now }
 {
-    let Some((x, rest)) = number_before_comma(text) else {
-        return None;
-    };
-    let Some((y, rest)) = number_before_comma(rest) else {
-        return None;
-    };
-    match number(rest) {
-        None => None,
-        Some(z) => Some([x, y, z]),
-    }
+    let (x, rest) = number_before_comma(text)?;
+    let (y, rest) = number_before_comma(rest)?;
+    let z = number(rest)?;
+    Some([x, y, z])
 }
 
 /// The number before the first comma, and the text after that comma.
-#[tactic(auto, unfolding(crate::specs::Form::number_before))]
+#[tactic(auto, unfolding(crate::specs::NumberFronts::number_before))]
 fn number_before_comma(text: &[u8]) -> Option<(i64, &[u8])>
     ensures { MatchOption result (number_before text.now ≡ None) (λ r. number_before text.now ≡ Some (r.0, r.1.now)) }
 {
-    match comma(text) {
-        None => None,
-        Some(at) => match number(&text[..at]) {
-            None => None,
-            Some(number) => Some((number, &text[at + 1..])),
-        },
-    }
+    let at = comma(text)?;
+    let number = number(&text[..at])?;
+    Some((number, &text[at + 1..]))
 }
 
 /// The place of the first comma.

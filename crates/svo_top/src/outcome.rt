@@ -8,11 +8,12 @@ use svo_base::GridFault;
 /// How a run ended.
 #[derive(Clone, Copy, Debug, PartialEq, Eq)]
 pub enum Status {
-    /// All was read that the command reads, and all was written.
+    /// The command read its whole input and wrote its whole output.
     Done,
     /// The words are no command line of this program.
     Usage(UsageKind),
-    /// The input was refused, at the byte of this number.
+    /// The input was refused. The place is the number of bytes before what is wrong, and 0 for
+    /// `NotPlain`.
     Input { kind: InputKind, place: u64 },
     /// A number among the words is out of its range.
     Range(RangeFault),
@@ -25,11 +26,11 @@ pub enum Status {
 /// What is wrong with the words.
 #[derive(Clone, Copy, Debug, PartialEq, Eq)]
 pub enum UsageKind {
-    /// There is no first word, or it names no command.
+    /// The first word is missing or unknown.
     Command,
     /// The words after it are not in the command's form.
     Options,
-    /// They are, and a value's text is not of its kind.
+    /// They are, and the text of a value is of another kind.
     Value,
 }
 
@@ -57,7 +58,7 @@ pub enum Device {
 }
 
 impl Status {
-    /// The exit status of the process: 0, or 2 to 7 for the cause.
+    /// The exit status of the process: 0 where the run is done, and else 2, 3, 4, 5 or 7.
     pub fn code(&self) -> u8
         ensures { result ≡ code_of_status self.now }
     {

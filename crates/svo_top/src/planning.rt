@@ -1,9 +1,6 @@
 //! From the text of a mesh to the node file of the cells that it fills.
 
 ghost use Rattle.std.specs.Prelude.{◌≡◌, Err, IfOk};
-ghost use Rattle.octree_specs.specs.Filling.{filled_codes};
-ghost use Rattle.octree_specs.specs.Mesh.{triangles_of};
-ghost use Rattle.octree_specs.specs.PlainText.{IsPlainText};
 ghost use Rattle.svo_top.specs.Build.{IsNotPlain};
 ghost use Rattle.svo_top.specs.Planning.{IsImageFor};
 
@@ -13,35 +10,27 @@ use plain_mesh::{PlainFault, PlainMesh};
 use std::alloc::Global;
 use svo_base::Grid;
 
-/// A node file in memory, and what it counts.
+/// A node file in memory.
 #[derive(Drop)]
 pub struct Plan {
+    /// The whole file.
     pub bytes: Vec<u8>,
+    /// How many cells are filled.
     pub cells: u64,
+    /// How many records the file has.
     pub records: u64,
 }
 
-/// The node file of the cells of the grid that the mesh of a text fills.
+/// The node file of the cells of the grid that the mesh of a text fills. `NotPlain`: the text stands
+/// for no mesh. `Memory`: memory ran out.
 pub fn planned(alloc: Global, grid: &Grid, text: &[u8]) -> Result<Plan, PlainFault>
     ensures found { IfOk result (λ plan. IsImageFor text.now grid.now plan.bytes.items plan.cells plan.records) }
     ensures not_plain { result ≡ Err PlainFault.NotPlain → IsNotPlain text.now }
 {
-    let mesh = match PlainMesh::read(alloc, text) {
-        Err(fault) => return Err(fault),
-        Ok(mesh) => mesh,
-    };
-    let triangles = match mesh.triangles(alloc) {
-        Err(_) => return Err(PlainFault::Memory),
-        Ok(triangles) => triangles,
-    };
-    let cells = match filled_cells(alloc, grid, &triangles) {
-        Err(_) => return Err(PlainFault::Memory),
-        Ok(cells) => cells,
-    };
-    let image = match node_image(alloc, grid, &cells) {
-        Err(_) => return Err(PlainFault::Memory),
-        Ok(image) => image,
-    };
+    let mesh = PlainMesh::read(alloc, text)?;
+    let triangles = mesh.triangles(alloc)?;
+    let cells = filled_cells(alloc, grid, &triangles)?;
+    let image = node_image(alloc, grid, &cells)?;
     Ok(Plan {
         bytes: image.bytes,
         cells: cells.len() as u64,

@@ -18,8 +18,11 @@ type Line = ArrayString<96>;
 /// What the line of a finished build counts.
 #[derive(Clone, Copy, Debug, PartialEq, Eq)]
 pub struct Counts {
+    /// Filled cells.
     pub cells: u64,
+    /// Records of the node file.
     pub records: u64,
+    /// Parts that were built one after another.
     pub parts: u64,
 }
 

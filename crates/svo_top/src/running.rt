@@ -15,8 +15,12 @@ use dev_traits::{ByteSink, ByteSource};
 use std::alloc::Global;
 use svo_base::Words;
 
-/// Runs the command that the words are, over an input, an output and an output for one line that says
-/// how the run ended.
+/// Runs the command that the words are, over an input, an output, and an output for the one line that
+/// says how the run ended.
+///
+/// `Done`: the command's work is done. `Usage`: the words are no command line. `Range`: a number among
+/// them is out of range. `Input`: the input was refused. `Device`: a device failed. `Memory`: memory
+/// ran out, while the command's input is read or its output is made.
 pub fn run<I: ByteSource, O: ByteSink, E: ByteSink>(
     alloc: Global,
     words: &Words,
@@ -31,7 +35,10 @@ pub fn run<I: ByteSource, O: ByteSink, E: ByteSink>(
     ensures write { DeviceCause Device.Write (change_of O.written O.faults out.old out.new) result }
 
     // What the run of a command does.
-    ensures build { (job : BuildWords) → form_of words.now ≡ Ok (Command.Build job) → BuildRun job (change_of I.rest I.faults input.old input.new) (change_of O.written O.faults out.old out.new) (change_of E.written E.faults err.old err.new) result }
+    ensures build { (job : BuildWords) → form_of words.now ≡ Ok (Command.Build job) → BuildRun job
+        (change_of I.rest I.faults input.old input.new)
+        (change_of O.written O.faults out.old out.new)
+        (change_of E.written E.faults err.old err.new) result }
 
     // What a run that stops leaves as it was, and what it says.
     ensures keeps_input { KeepsInput (change_of I.rest I.faults input.old input.new) result }
@@ -54,8 +61,12 @@ fn carry_out<I: ByteSource, O: ByteSink>(
     ensures range { RangeCauses words.now (status_of result) }
     ensures read { DeviceCause Device.Read (change_of I.rest I.faults input.old input.new) (status_of result) }
     ensures write { DeviceCause Device.Write (change_of O.written O.faults out.old out.new) (status_of result) }
-    ensures build { (job : BuildWords) → form_of words.now ≡ Ok (Command.Build job) → BuildMeans job (change_of I.rest I.faults input.old input.new) (change_of O.written O.faults out.old out.new) (status_of result) }
-    ensures ends { (job : BuildWords) → form_of words.now ≡ Ok (Command.Build job) → EndsBuild job (change_of I.rest I.faults input.old input.new) (change_of O.written O.faults out.old out.new) result }
+    ensures build { (job : BuildWords) → form_of words.now ≡ Ok (Command.Build job) → BuildMeans job
+        (change_of I.rest I.faults input.old input.new)
+        (change_of O.written O.faults out.old out.new) (status_of result) }
+    ensures ends { (job : BuildWords) → form_of words.now ≡ Ok (Command.Build job) → EndsBuild job
+        (change_of I.rest I.faults input.old input.new)
+        (change_of O.written O.faults out.old out.new) result }
     ensures keeps_input { KeepsInput (change_of I.rest I.faults input.old input.new) (status_of result) }
     ensures keeps_output { KeepsOutput (change_of O.written O.faults out.old out.new) (status_of result) }
 {

@@ -275,89 +275,91 @@ fn builds_the_worked_meshes(rt: HostRuntime) {
     }
 }
 
+/// Wrong words, and the status and the line that they give.
+const WRONG_WORDS: &[(&[&str], Status, &str)] = &[
+    (&[], Status::Usage(UsageKind::Command), "usage: command\n"),
+    (
+        &["make"],
+        Status::Usage(UsageKind::Command),
+        "usage: command\n",
+    ),
+    (
+        &["build", "--depth"],
+        Status::Usage(UsageKind::Options),
+        "usage: options\n",
+    ),
+    (
+        &["build", "--origin=0,0,0", "--depth", "1", "--cell", "1"],
+        Status::Usage(UsageKind::Options),
+        "usage: options\n",
+    ),
+    (
+        &["build", "--depth", "1", "--origin", "-1,0,0", "--cell", "1"],
+        Status::Usage(UsageKind::Options),
+        "usage: options\n",
+    ),
+    (
+        &[
+            "build",
+            "--depth",
+            "1",
+            "--origin=0,0,0",
+            "--cell",
+            "1",
+            "more",
+        ],
+        Status::Usage(UsageKind::Options),
+        "usage: options\n",
+    ),
+    (
+        &["build", "--depth", "x", "--origin=0,0,0", "--cell", "1"],
+        Status::Usage(UsageKind::Value),
+        "usage: value\n",
+    ),
+    (
+        &["build", "--depth", "1", "--origin=0,0", "--cell", "1"],
+        Status::Usage(UsageKind::Value),
+        "usage: value\n",
+    ),
+    (
+        &["build", "--depth", "13", "--origin=0,0,0", "--cell", "1"],
+        Status::Range(RangeFault::Grid(GridFault::Depth)),
+        "range: depth\n",
+    ),
+    (
+        &[
+            "build",
+            "--depth",
+            "1",
+            "--origin=0,0,-1073741825",
+            "--cell",
+            "0",
+        ],
+        Status::Range(RangeFault::Grid(GridFault::Origin)),
+        "range: origin\n",
+    ),
+    (
+        &["build", "--depth", "1", "--origin=0,0,0", "--cell", "0"],
+        Status::Range(RangeFault::Grid(GridFault::Cell)),
+        "range: cell\n",
+    ),
+    (
+        &[
+            "build",
+            "--depth",
+            "1",
+            "--origin=0,0,0",
+            "--cell",
+            "2147483649",
+        ],
+        Status::Range(RangeFault::Grid(GridFault::TooWide)),
+        "range: wide\n",
+    ),
+];
+
 #[test]
 fn stops_where_the_words_are_wrong(rt: HostRuntime) {
-    let cases: [(&[&str], Status, &str); 12] = [
-        (&[], Status::Usage(UsageKind::Command), "usage: command\n"),
-        (
-            &["make"],
-            Status::Usage(UsageKind::Command),
-            "usage: command\n",
-        ),
-        (
-            &["build", "--depth"],
-            Status::Usage(UsageKind::Options),
-            "usage: options\n",
-        ),
-        (
-            &["build", "--origin=0,0,0", "--depth", "1", "--cell", "1"],
-            Status::Usage(UsageKind::Options),
-            "usage: options\n",
-        ),
-        (
-            &["build", "--depth", "1", "--origin", "-1,0,0", "--cell", "1"],
-            Status::Usage(UsageKind::Options),
-            "usage: options\n",
-        ),
-        (
-            &[
-                "build",
-                "--depth",
-                "1",
-                "--origin=0,0,0",
-                "--cell",
-                "1",
-                "more",
-            ],
-            Status::Usage(UsageKind::Options),
-            "usage: options\n",
-        ),
-        (
-            &["build", "--depth", "x", "--origin=0,0,0", "--cell", "1"],
-            Status::Usage(UsageKind::Value),
-            "usage: value\n",
-        ),
-        (
-            &["build", "--depth", "1", "--origin=0,0", "--cell", "1"],
-            Status::Usage(UsageKind::Value),
-            "usage: value\n",
-        ),
-        (
-            &["build", "--depth", "13", "--origin=0,0,0", "--cell", "1"],
-            Status::Range(RangeFault::Grid(GridFault::Depth)),
-            "range: depth\n",
-        ),
-        (
-            &[
-                "build",
-                "--depth",
-                "1",
-                "--origin=0,0,-1073741825",
-                "--cell",
-                "0",
-            ],
-            Status::Range(RangeFault::Grid(GridFault::Origin)),
-            "range: origin\n",
-        ),
-        (
-            &["build", "--depth", "1", "--origin=0,0,0", "--cell", "0"],
-            Status::Range(RangeFault::Grid(GridFault::Cell)),
-            "range: cell\n",
-        ),
-        (
-            &[
-                "build",
-                "--depth",
-                "1",
-                "--origin=0,0,0",
-                "--cell",
-                "2147483649",
-            ],
-            Status::Range(RangeFault::Grid(GridFault::TooWide)),
-            "range: wide\n",
-        ),
-    ];
-    for (words, status, line) in cases {
+    for (words, status, line) in WRONG_WORDS.iter().copied() {
         let ran = run_over(rt.alloc(), words, b"ply\n", &HONEST).expect(&rt, "memory");
         assert_eq!(rt; ran.status, status, "for {line}");
         assert!(rt; ran.out.bytes().is_empty(), "nothing is put out for {line}");
@@ -365,25 +367,27 @@ fn stops_where_the_words_are_wrong(rt: HostRuntime) {
     }
 }
 
+/// Counts and lines of texts that are nearly plain.
+const NEARLY_PLAIN: &[(u64, &str, u64, &str)] = &[
+    (3, "0 0 0\n1 0  0\n0 1 0\n", 1, "3 0 1 2\n"),
+    (3, FLAT, 1, "3 0 1 2"),
+    (3, "0 0 0\r\n1 0 0\r\n0 1 0\r\n", 1, "3 0 1 2\r\n"),
+    (3, "-0 0 0\n1 0 0\n0 1 0\n", 1, "3 0 1 2\n"),
+    (3, "0 0 0\n01 0 0\n0 1 0\n", 1, "3 0 1 2\n"),
+    (3, "0 0 0\n+1 0 0\n0 1 0\n", 1, "3 0 1 2\n"),
+    (3, "0 0 0\n1 0 0\n0 1073741825 0\n", 1, "3 0 1 2\n"),
+    (3, FLAT, 1, "3 0 1 3\n"),
+    (3, FLAT, 1, "4 0 1 2 0\n"),
+    (4, FLAT, 1, "3 0 1 2\n"),
+    (2, FLAT, 1, "3 0 1 1\n"),
+    (3, FLAT, 2, "3 0 1 2\n"),
+    (3, FLAT, 0, "3 0 1 2\n"),
+    (3, FLAT, 1, "3 0 1 2\nx\n"),
+];
+
 #[test]
 fn refuses_texts_that_are_nearly_plain(rt: HostRuntime) {
-    let cases: [(u64, &str, u64, &str); 14] = [
-        (3, "0 0 0\n1 0  0\n0 1 0\n", 1, "3 0 1 2\n"),
-        (3, FLAT, 1, "3 0 1 2"),
-        (3, "0 0 0\r\n1 0 0\r\n0 1 0\r\n", 1, "3 0 1 2\r\n"),
-        (3, "-0 0 0\n1 0 0\n0 1 0\n", 1, "3 0 1 2\n"),
-        (3, "0 0 0\n01 0 0\n0 1 0\n", 1, "3 0 1 2\n"),
-        (3, "0 0 0\n+1 0 0\n0 1 0\n", 1, "3 0 1 2\n"),
-        (3, "0 0 0\n1 0 0\n0 1073741825 0\n", 1, "3 0 1 2\n"),
-        (3, FLAT, 1, "3 0 1 3\n"),
-        (3, FLAT, 1, "4 0 1 2 0\n"),
-        (4, FLAT, 1, "3 0 1 2\n"),
-        (2, FLAT, 1, "3 0 1 1\n"),
-        (3, FLAT, 2, "3 0 1 2\n"),
-        (3, FLAT, 0, "3 0 1 2\n"),
-        (3, FLAT, 1, "3 0 1 2\nx\n"),
-    ];
-    for (vertices, vertex_lines, faces, face_lines) in cases {
+    for (vertices, vertex_lines, faces, face_lines) in NEARLY_PLAIN.iter().copied() {
         let text = text_of(rt.alloc(), vertices, vertex_lines, faces, face_lines).expect(
             &rt, "memory",
         );
@@ -410,63 +414,65 @@ fn refuses(rt: &(impl Abort + AllocGlobal), text: &[u8]) {
     );
 }
 
+/// Devices that fail, which of them is named, how many bytes were taken, and the line.
+const FAILING: &[(Devices, Device, usize, &str)] = &[
+    (
+        Devices {
+            read_fails: &[1],
+            put_fails: &[],
+            room: 1024,
+        },
+        Device::Read,
+        0,
+        "device: read\n",
+    ),
+    (
+        Devices {
+            read_fails: &[9],
+            put_fails: &[],
+            room: 1024,
+        },
+        Device::Read,
+        0,
+        "device: read\n",
+    ),
+    (
+        Devices {
+            read_fails: &[],
+            put_fails: &[PartFail { call: 1, taken: 0 }],
+            room: 1024,
+        },
+        Device::Write,
+        0,
+        "device: write\n",
+    ),
+    (
+        Devices {
+            read_fails: &[],
+            put_fails: &[PartFail { call: 1, taken: 1 }],
+            room: 1024,
+        },
+        Device::Write,
+        1,
+        "device: write\n",
+    ),
+    (
+        Devices {
+            read_fails: &[],
+            put_fails: &[],
+            room: 100,
+        },
+        Device::Write,
+        100,
+        "device: write\n",
+    ),
+];
+
 #[test]
 fn names_the_device_that_failed(rt: HostRuntime) {
     let text = text_of(rt.alloc(), 1, "2 2 2\n", 1, "3 0 0 0\n").expect(&rt, "memory");
     let file = bytes_of(rt.alloc(), POINT_FILE).expect(&rt, "memory");
-    let cases: [(Devices, Device, usize, &str); 5] = [
-        (
-            Devices {
-                read_fails: &[1],
-                put_fails: &[],
-                room: 1024,
-            },
-            Device::Read,
-            0,
-            "device: read\n",
-        ),
-        (
-            Devices {
-                read_fails: &[9],
-                put_fails: &[],
-                room: 1024,
-            },
-            Device::Read,
-            0,
-            "device: read\n",
-        ),
-        (
-            Devices {
-                read_fails: &[],
-                put_fails: &[PartFail { call: 1, taken: 0 }],
-                room: 1024,
-            },
-            Device::Write,
-            0,
-            "device: write\n",
-        ),
-        (
-            Devices {
-                read_fails: &[],
-                put_fails: &[PartFail { call: 1, taken: 1 }],
-                room: 1024,
-            },
-            Device::Write,
-            1,
-            "device: write\n",
-        ),
-        (
-            Devices {
-                read_fails: &[],
-                put_fails: &[],
-                room: 100,
-            },
-            Device::Write,
-            100,
-            "device: write\n",
-        ),
-    ];
-    for (devices, device, taken, line) in cases {
+    for (devices, device, taken, line) in FAILING.iter().copied() {
         let ran = run_over(rt.alloc(), DEEPER_GRID, text.as_bytes(), &devices).expect(
             &rt, "memory",
         );
@@ -479,26 +485,5 @@ fn names_the_device_that_failed(rt: HostRuntime) {
             ran.err.bytes() == line.as_bytes(),
             "the line with {taken} bytes"
         );
-    }
-}
-
-#[test]
-fn numbers_each_way_to_end(rt: HostRuntime) {
-    let cases = [
-        (Status::Done, 0),
-        (Status::Usage(UsageKind::Value), 2),
-        (
-            Status::Input {
-                kind: InputKind::NotPlain,
-                place: 0,
-            },
-            3,
-        ),
-        (Status::Range(RangeFault::Grid(GridFault::Cell)), 4),
-        (Status::Device(Device::Write), 5),
-        (Status::Memory, 7),
-    ];
-    for (status, code) in cases {
-        assert_eq!(rt; status.code(), code, "for {status:?}");
     }
 }

@@ -1,6 +1,6 @@
 //! The rows of a triangle and a cube, with a number for each corner of the triangle. Weights of the
-//! corners clear a row where their product with it is not negative, and they name a point of the
-//! cube where they clear all rows.
+//! corners clear a row where their product with it is not negative. Weights that are not all zero
+//! name a point of the cube where they clear all rows.
 
 ghost use Rattle.std.specs.Prelude.{◌≡◌, ◌++◌, ◌^◌, ◌≤◌, ◌-ℤ◌, pos, unsigned_abs};
 ghost use Rattle.octree_specs.specs.Vectors.{vector};

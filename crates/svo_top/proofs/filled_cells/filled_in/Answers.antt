@@ -1,4 +1,4 @@
-use Rattle.std.proofs.Common.{◌≡◌, sym, ap, ◌∙◌, arith}
+use Rattle.std.proofs.Common.{sym, arith}
 use Rattle.std.proofs.lemmas.Grind.{common_steps}
 use Rattle.octree_specs.specs.Filling.{is_filled}
 use Rattle.svo_top.proofs.FilledCells.{passed, passed_over}

@@ -1,22 +1,22 @@
-use Rattle.std.proofs.Common.{◌≡◌, sym, ◌∙◌, arith}
+use Rattle.std.proofs.Common.{arith, sym}
 use Rattle.std.proofs.lemmas.Int.{ints, to_z-of_z}
 use Rattle.svo_top.proofs.NumberLists.{three_without_first, three_without_second, three_without_third, three_numbers}
 use Rattle.svo_top.proofs.numbers.three_numbers.Goals as goal
 
-pub returns-in_default : goal.returns-in_default
-returns-in_default c = three_without_first c.args.text.now c.in_default.ensures
+pub returns-in_err-x : goal.returns-in_err-x
+returns-in_err-x c = rw c.from_residual.ensures (three_without_first c.args.text.now c.in_err-x.ensures)
 
-pub returns-in_default-number_before_comma : goal.returns-in_default-number_before_comma
-returns-in_default-number_before_comma c =
-    three_without_second c.args.text.now c.in-Some.rest.now c.in-Some.x c.in-Some.ensures c.in_default-number_before_comma.ensures
+pub returns-in_err-y : goal.returns-in_err-y
+returns-in_err-y c = rw c.from_residual-in_err-y.ensures
+    (three_without_second c.args.text.now c.in_ok-x.rest.now c.in_ok-x.x c.in_ok-x.ensures c.in_err-y.ensures)
 
-pub returns-in-None : goal.returns-in-None
-returns-in-None c =
-    three_without_third c.args.text.now c.in-Some.rest.now c.in-Some-number_before_comma.rest.now c.in-Some.x c.in-Some-number_before_comma.y
-    c.in-Some.ensures c.in-Some-number_before_comma.ensures (sym c.in-None.ensures)
+pub returns-in_err-z : goal.returns-in_err-z
+returns-in_err-z c = rw c.from_residual-in_err-z.ensures
+    (three_without_third c.args.text.now c.in_ok-x.rest.now c.in_ok-y.rest.now c.in_ok-x.x c.in_ok-y.y
+    c.in_ok-x.ensures c.in_ok-y.ensures (sym c.in_err-z.ensures))
 
-pub returns-in-Some-number : goal.returns-in-Some-number
-returns-in-Some-number c =
-    let e = three_numbers c.args.text.now c.in-Some.rest.now c.in-Some-number_before_comma.rest.now c.in-Some.x c.in-Some-number_before_comma.y c.in-Some-number.z
-    c.in-Some.ensures c.in-Some-number_before_comma.ensures (sym c.in-Some-number.ensures) in
-    grind (arith, ints, to_z-of_z, e)
+pub returns : goal.returns
+returns c =
+    let whole = three_numbers c.args.text.now c.in_ok-x.rest.now c.in_ok-y.rest.now c.in_ok-x.x c.in_ok-y.y c.in_ok-z.z
+    c.in_ok-x.ensures c.in_ok-y.ensures (sym c.in_ok-z.ensures) in
+    grind (arith, ints, to_z-of_z, whole)

@@ -1,6 +1,5 @@
-use Rattle.std.proofs.Common.{ap, subst, ◌∙◌}
+use Rattle.std.proofs.Common.{◌∙◌}
 use Rattle.dev_traits.specs.Change.{change_of}
-use Rattle.svo_top.specs.Lines.{Says}
 use Rattle.svo_top.proofs.Puts.{says}
 use Rattle.svo_top.proofs.reporting.report.Goals as goal
 

@@ -27,7 +27,7 @@ zeros = 0 ∷ 0 ∷ 0 ∷ 0 ∷ 0 ∷ 0 ∷ 0 ∷ 0 ∷ []
 flat_mesh : Mesh
 flat_mesh = record { vertices = point 0 0 0 ∷ point 1 0 0 ∷ point 0 1 0 ∷ []; faces = (0 ∷ 1 ∷ 2 ∷ []) ∷ [] }
 
--- one triangle that is the point (2, 2, 2)
+-- one triangle that is the point (at, at, at)
 dot_mesh : ℕ → Mesh
 dot_mesh at = record { vertices = point at at at ∷ []; faces = (0 ∷ 0 ∷ 0 ∷ []) ∷ [] }
 
