@@ -2,7 +2,7 @@
 //! says whether the set has `place`.
 #![tactic(auto)]
 
-ghost use Rattle.std.specs.Prelude.{◌≡◌, ◌≢◌, ℕ, ◌*◌, ◌/◌, ◌%◌, ◌^◌, ◌<◌, ◌≤◌, Bool, true, false, length, slice_index, IfNone, IfSome, MatchOption};
+ghost use Rattle.std.specs.Prelude.{◌≡◌, ◌≢◌, ℕ, ◌*◌, ◌/◌, ◌%◌, ◌^◌, ◌<◌, ◌≤◌, true, false, length, slice_index, IfNone, IfSome, MatchOption};
 ghost use Rattle.std.specs.Int.{bit_at};
 ghost use Rattle.bit_grid.specs.Places.{is_set_at, HasNoneFrom, IsNextSet, IsLowestBit};
 

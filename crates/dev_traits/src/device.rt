@@ -3,7 +3,7 @@
 //! A device may tell contracts its contents, or not: a clause on contents holds where they are told.
 //! It counts its faults, and a call is refused only where that count rose.
 
-ghost use Rattle.std.specs.Prelude.{ℕ, Option, List, ◌<◌, ◌≤◌, ◌≡◌, length};
+ghost use Rattle.std.specs.Prelude.{ℕ, Option, List, ◌<◌, length};
 ghost use Rattle.dev_traits.specs.Faults.{HasCause};
 ghost use Rattle.dev_traits.specs.Contents.{TakesFront, GivesAtMost, PutsPiece};
 

@@ -1,6 +1,6 @@
 //! Morton codes of cells: the bits of three coordinates, taken in turn.
 
-ghost use Rattle.std.specs.Prelude.{◌≡◌, ℕ, ◌^◌, ◌<◌};
+ghost use Rattle.std.specs.Prelude.{◌≡◌, ◌^◌, ◌<◌};
 ghost use Rattle.octree_specs.specs.NodeCube.{code_of, coordinate_of};
 
 /// The Morton code of three coordinates of 20 bits each. Each group of three bits of the code has

@@ -1,7 +1,7 @@
 //! The record words of a set of cells, by one walk down the octree along the sorted codes. Nodes
 //! are put out children before their parent and siblings together.
 
-ghost use Rattle.std.specs.Prelude.{◌≡◌, ◌+◌, ◌*◌, ◌^◌, ◌<◌, ◌≤◌, ◌++◌, true, length, vec_len, IfOk, OnOk};
+ghost use Rattle.std.specs.Prelude.{◌≡◌, ◌+◌, ◌*◌, ◌^◌, ◌<◌, ◌≤◌, ◌++◌, true, vec_len, IfOk, OnOk};
 ghost use Rattle.std.specs.List.Sorted.{IsStrictlyIncreasing};
 ghost use Rattle.octree_specs.specs.NodeWords.{AreCells, is_nonempty, below_of, word_of, words_of};
 ghost use Rattle.plain_image.specs.Passing.{HasPassed};

@@ -1,6 +1,6 @@
 //! The header and the lines of a text in the plain form, each read at the front of what is left.
 
-ghost use Rattle.std.specs.Prelude.{◌≡◌, ◌<◌, ◌≤◌, ◌^◌, [], ◌∷◌, ◌++◌, List, ℕ, IfSome, IfNone};
+ghost use Rattle.std.specs.Prelude.{◌<◌, [], ◌∷◌, IfSome, IfNone};
 ghost use Rattle.octree_specs.specs.PlainText.{vertex_line, face_line, IsNear, IsTriple};
 ghost use Rattle.plain_mesh.specs.Fronts.{IsFront, HasNoFront, number_then, header_of, AreCounts};
 

@@ -1,8 +1,8 @@
 //! A mesh and its text.
 
-ghost use Rattle.std.specs.Prelude.{◌≡◌, ◌<◌, ◌≤◌, ◌^◌, ◌∷◌, [], ◌++◌, List, ℕ, length, IfOk, Err};
-ghost use Rattle.std.specs.List.{flat_map, slice_index_or};
-ghost use Rattle.octree_specs.specs.Mesh.{Mesh, vertex_at, fan_of, triangles_of};
+ghost use Rattle.std.specs.Prelude.{◌≡◌, ◌<◌, ◌∷◌, [], List, ℕ, length, IfOk, Err};
+ghost use Rattle.std.specs.List.{flat_map};
+ghost use Rattle.octree_specs.specs.Mesh.{Mesh, fan_of, triangles_of};
 ghost use Rattle.octree_specs.specs.PlainText.{vertex_line, face_line, IsNear, IsTriple, IsPlainText};
 ghost use Rattle.plain_mesh.specs.Fronts.{IsFront, HasNoFront, AreGood};
 

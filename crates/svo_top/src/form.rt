@@ -3,7 +3,7 @@
 //! The words come in one fixed form: the command's name, and then each of its options in a set order,
 //! as `--name value` or `--name=value`.
 
-ghost use Rattle.std.specs.Prelude.{◌≡◌, ◌≤◌, List, None, Some, IfSome, length, drop, MatchOption};
+ghost use Rattle.std.specs.Prelude.{◌≡◌, ◌≤◌, None, Some, IfSome, length, drop, MatchOption};
 ghost use Rattle.svo_top.specs.BuildValues.{texts_of};
 ghost use Rattle.svo_top.specs.Form.{form_of, build_texts_of, build_words_of, take_option, take_separate, joined_value, is_separate};
 

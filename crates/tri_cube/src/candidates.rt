@@ -1,10 +1,10 @@
 //! Whether one of the candidates is good. Candidates are the cross products of two rows, and their
 //! opposites, as weights of a triangle's corners.
 
-ghost use Rattle.std.specs.Prelude.{◌≡◌, ◌++◌, ◌^◌, ◌∷◌, [], Bool, not, ◌&&◌, pos, int_le};
+ghost use Rattle.std.specs.Prelude.{◌≡◌, ◌++◌, ◌^◌, ◌&&◌, pos, int_le};
 ghost use Rattle.std.specs.List.{list_all, list_any};
-ghost use Rattle.octree_specs.specs.Vectors.{IsWithin, cross_of, dot_of, opposite_of, is_zero_vector};
-ghost use Rattle.octree_specs.specs.Meeting.{candidates_of, candidates_with, is_good};
+ghost use Rattle.octree_specs.specs.Vectors.{IsWithin, dot_of, is_zero_vector};
+ghost use Rattle.octree_specs.specs.Meeting.{candidates_of, is_good};
 ghost use Rattle.tri_cube.specs.Pairs.{has_good_pair};
 ghost use Rattle.tri_cube.specs.Sides.{unit_rows};
 

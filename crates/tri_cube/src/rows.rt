@@ -2,8 +2,7 @@
 //! corners clear a row where their product with it is not negative. Weights that are not all zero
 //! name a point of the cube where they clear all rows.
 
-ghost use Rattle.std.specs.Prelude.{◌≡◌, ◌++◌, ◌^◌, ◌≤◌, ◌-ℤ◌, pos, unsigned_abs};
-ghost use Rattle.octree_specs.specs.Vectors.{vector};
+ghost use Rattle.std.specs.Prelude.{◌≡◌, ◌++◌, ◌^◌, ◌≤◌, ◌-ℤ◌, unsigned_abs};
 ghost use Rattle.octree_specs.specs.Meeting.{HasPlanes, above_plane, below_plane, low_of, high_of};
 ghost use Rattle.tri_cube.specs.Sides.{unit_rows, sides_of};
 
