@@ -43,75 +43,79 @@ fn are_numbers(bytes: &[u8], numbers: &[u64]) -> bool {
             .all(|(bytes, number)| bytes == number.to_le_bytes().as_slice())
 }
 
+/// A grid, its filled cells, the number of records, and the file as numbers of eight bytes.
+type File = (i64, [i64; 3], i64, &'static [u64], u64, &'static [u64]);
+
+const FILES: &[File] = &[
+    (
+        1,
+        [0, 0, 0],
+        1,
+        &[0, 1, 2],
+        1,
+        &[NAME, 1, 0, 0, 0, 1, 7, 0, 1, 3, END],
+    ),
+    (
+        1,
+        [0, 0, 0],
+        1,
+        &[],
+        1,
+        &[NAME, 1, 0, 0, 0, 1, 0, 0, 1, 0, END],
+    ),
+    (
+        2,
+        [0, 0, 0],
+        1,
+        &[7, 14, 21, 28, 35, 42, 49, 56],
+        9,
+        &[
+            NAME, 2, 0, 0, 0, 1, 128, 64, 32, 16, 8, 4, 2, 1, 255, 0, 9, 8, END,
+        ],
+    ),
+    (
+        3,
+        [0, 0, 0],
+        1,
+        &[7, 14, 21, 28, 35, 42, 49, 56],
+        10,
+        &[
+            NAME, 3, 0, 0, 0, 1, 128, 64, 32, 16, 8, 4, 2, 1, 255, 2049, 0, 10, 8, END,
+        ],
+    ),
+    (
+        2,
+        [0, 0, 0],
+        1,
+        &[63],
+        2,
+        &[NAME, 2, 0, 0, 0, 1, 128, 128, 0, 2, 1, END],
+    ),
+    (
+        1,
+        [-1, 2, -1_073_741_824],
+        5,
+        &[6],
+        1,
+        &[
+            NAME,
+            1,
+            u64::MAX,
+            2,
+            0xffff_ffff_c000_0000,
+            5,
+            64,
+            0,
+            1,
+            1,
+            END,
+        ],
+    ),
+];
+
 #[test]
 fn writes_node_files(rt: HostRuntime) {
-    let cases: [(i64, [i64; 3], i64, &[u64], u64, &[u64]); 6] = [
-        (
-            1,
-            [0, 0, 0],
-            1,
-            &[0, 1, 2],
-            1,
-            &[NAME, 1, 0, 0, 0, 1, 7, 0, 1, 3, END],
-        ),
-        (
-            1,
-            [0, 0, 0],
-            1,
-            &[],
-            1,
-            &[NAME, 1, 0, 0, 0, 1, 0, 0, 1, 0, END],
-        ),
-        (
-            2,
-            [0, 0, 0],
-            1,
-            &[7, 14, 21, 28, 35, 42, 49, 56],
-            9,
-            &[
-                NAME, 2, 0, 0, 0, 1, 128, 64, 32, 16, 8, 4, 2, 1, 255, 0, 9, 8, END,
-            ],
-        ),
-        (
-            3,
-            [0, 0, 0],
-            1,
-            &[7, 14, 21, 28, 35, 42, 49, 56],
-            10,
-            &[
-                NAME, 3, 0, 0, 0, 1, 128, 64, 32, 16, 8, 4, 2, 1, 255, 2049, 0, 10, 8, END,
-            ],
-        ),
-        (
-            2,
-            [0, 0, 0],
-            1,
-            &[63],
-            2,
-            &[NAME, 2, 0, 0, 0, 1, 128, 128, 0, 2, 1, END],
-        ),
-        (
-            1,
-            [-1, 2, -1_073_741_824],
-            5,
-            &[6],
-            1,
-            &[
-                NAME,
-                1,
-                u64::MAX,
-                2,
-                0xffff_ffff_c000_0000,
-                5,
-                64,
-                0,
-                1,
-                1,
-                END,
-            ],
-        ),
-    ];
-    for (depth, origin, cell, cells, records, numbers) in cases {
+    for (depth, origin, cell, cells, records, numbers) in FILES.iter().copied() {
         let grid = Grid::new(depth, origin, cell).expect(&rt, "a grid");
         assert!(rt; ascends(cells), "order at depth {depth}");
         assert!(rt; are_inside(cells, grid.depth()), "cells at depth {depth}");

@@ -2,8 +2,9 @@
 //! corners clear a row where their product with it is not negative. Weights that are not all zero
 //! name a point of the cube where they clear all rows.
 
-ghost use Rattle.std.specs.Prelude.{◌≡◌, ◌++◌, ◌^◌, ◌≤◌, ◌-ℤ◌, unsigned_abs};
-ghost use Rattle.octree_specs.specs.Meeting.{HasPlanes, above_plane, below_plane, low_of, high_of};
+ghost use Rattle.std.specs.Prelude.{◌≡◌, ◌++◌, ◌^◌, ◌<◌, ◌≤◌, ◌-ℤ◌, pos, unsigned_abs, slice_index_or, All};
+ghost use Rattle.octree_specs.specs.Meeting.{HasPlanes};
+ghost use Rattle.octree_specs.specs.Vectors.{vector};
 ghost use Rattle.tri_cube.specs.Sides.{unit_rows, sides_of};
 
 use crate::narrow::NarrowVector;
@@ -26,92 +27,74 @@ pub fn with_units(sides: &[NarrowVector; 6]) -> [NarrowVector; 9]
     ]
 }
 
+/// The coordinates of a triangle's corners along one axis.
+#[derive(Clone, Copy)]
+struct Coordinates {
+    a: i32,
+    b: i32,
+    c: i32,
+}
+
 /// A row for each plane of the cube, which weights clear where they name a point on its inner side.
 #[tactic(auto, unfolding(crate::specs::Sides::sides_of))]
 pub fn sides(triangle: &Triangle, cube: &Cube) -> [NarrowVector; 6]
     requires { HasPlanes cube.now }
     ensures { result ≡ sides_of triangle.now cube.now }
 {
+    let Triangle { a, b, c } = triangle;
+    let x = Coordinates {
+        a: a.x,
+        b: b.x,
+        c: c.x,
+    };
+    let y = Coordinates {
+        a: a.y,
+        b: b.y,
+        c: c.y,
+    };
+    let z = Coordinates {
+        a: a.z,
+        b: b.z,
+        c: c.z,
+    };
     [
-        above_x(triangle, cube),
-        below_x(triangle, cube),
-        above_y(triangle, cube),
-        below_y(triangle, cube),
-        above_z(triangle, cube),
-        below_z(triangle, cube),
+        above(&x, &cube.lo, 0),
+        below(&x, &cube.hi, 0),
+        above(&y, &cube.lo, 1),
+        below(&y, &cube.hi, 1),
+        above(&z, &cube.lo, 2),
+        below(&z, &cube.hi, 2),
     ]
 }
 
-/// How far the corners are above the lower plane across x.
-fn above_x(triangle: &Triangle, cube: &Cube) -> NarrowVector
-    requires { HasPlanes cube.now }
-    ensures { result ≡ above_plane (λ p. p.x) triangle.now (low_of cube.now 0) }
+/// How far the corners are above the plane across an axis.
+fn above(corners: &Coordinates, planes: &[i64; 3], axis: usize) -> NarrowVector
+    requires axis { axis < 3 }
+    requires planes { All (λ plane. unsigned_abs plane ≤ 2 ^ 33) planes.now }
+    ensures { let plane = slice_index_or planes.now axis (pos 0) in
+        result ≡ vector (corners.now.a -ℤ plane) (corners.now.b -ℤ plane) (corners.now.c -ℤ plane) }
 {
-    let plane = cube.lo[0];
-    let a = height(triangle.a.x, plane);
-    let b = height(triangle.b.x, plane);
-    let c = height(triangle.c.x, plane);
-    NarrowVector::new(a, b, c)
+    let plane = planes[axis];
+    NarrowVector::new(
+        height(corners.a, plane),
+        height(corners.b, plane),
+        height(corners.c, plane),
+    )
 }
 
-/// How far the corners are below the upper plane across x.
-fn below_x(triangle: &Triangle, cube: &Cube) -> NarrowVector
-    requires { HasPlanes cube.now }
-    ensures { result ≡ below_plane (λ p. p.x) triangle.now (high_of cube.now 0) }
+/// How far the corners are below the plane across an axis.
+fn below(corners: &Coordinates, planes: &[i64; 3], axis: usize) -> NarrowVector
+    requires axis { axis < 3 }
+    requires planes { All (λ plane. unsigned_abs plane ≤ 2 ^ 33) planes.now }
+    ensures { let plane = slice_index_or planes.now axis (pos 0) in
+        result ≡ vector (plane -ℤ corners.now.a) (plane -ℤ corners.now.b) (plane -ℤ corners.now.c) }
 {
-    let plane = cube.hi[0];
-    let a = depth(triangle.a.x, plane);
-    let b = depth(triangle.b.x, plane);
-    let c = depth(triangle.c.x, plane);
-    NarrowVector::new(a, b, c)
-}
-
-/// How far the corners are above the lower plane across y.
-fn above_y(triangle: &Triangle, cube: &Cube) -> NarrowVector
-    requires { HasPlanes cube.now }
-    ensures { result ≡ above_plane (λ p. p.y) triangle.now (low_of cube.now 1) }
-{
-    let plane = cube.lo[1];
-    let a = height(triangle.a.y, plane);
-    let b = height(triangle.b.y, plane);
-    let c = height(triangle.c.y, plane);
-    NarrowVector::new(a, b, c)
-}
-
-/// How far the corners are below the upper plane across y.
-fn below_y(triangle: &Triangle, cube: &Cube) -> NarrowVector
-    requires { HasPlanes cube.now }
-    ensures { result ≡ below_plane (λ p. p.y) triangle.now (high_of cube.now 1) }
-{
-    let plane = cube.hi[1];
-    let a = depth(triangle.a.y, plane);
-    let b = depth(triangle.b.y, plane);
-    let c = depth(triangle.c.y, plane);
-    NarrowVector::new(a, b, c)
-}
-
-/// How far the corners are above the lower plane across z.
-fn above_z(triangle: &Triangle, cube: &Cube) -> NarrowVector
-    requires { HasPlanes cube.now }
-    ensures { result ≡ above_plane (λ p. p.z) triangle.now (low_of cube.now 2) }
-{
-    let plane = cube.lo[2];
-    let a = height(triangle.a.z, plane);
-    let b = height(triangle.b.z, plane);
-    let c = height(triangle.c.z, plane);
-    NarrowVector::new(a, b, c)
-}
-
-/// How far the corners are below the upper plane across z.
-fn below_z(triangle: &Triangle, cube: &Cube) -> NarrowVector
-    requires { HasPlanes cube.now }
-    ensures { result ≡ below_plane (λ p. p.z) triangle.now (high_of cube.now 2) }
-{
-    let plane = cube.hi[2];
-    let a = depth(triangle.a.z, plane);
-    let b = depth(triangle.b.z, plane);
-    let c = depth(triangle.c.z, plane);
-    NarrowVector::new(a, b, c)
+    let plane = planes[axis];
+    NarrowVector::new(
+        depth(corners.a, plane),
+        depth(corners.b, plane),
+        depth(corners.c, plane),
+    )
 }
 
 /// How far a corner is above a plane.

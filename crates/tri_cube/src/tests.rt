@@ -109,6 +109,13 @@ fn shared_points_are_seen(rt: HostRuntime) {
     assert!(rt; meets_all(dot, [1, 2], 1), "the cubes around a point");
 }
 
+/// The widest triangle.
+const WHOLE: [[i32; 3]; 3] = [
+    [i32::MIN, i32::MIN, i32::MIN],
+    [i32::MAX, i32::MAX, i32::MAX],
+    [i32::MAX, i32::MIN, i32::MAX],
+];
+
 #[test]
 fn far_numbers_do_not_wrap(rt: HostRuntime) {
     let far = 1 << 30;
@@ -117,14 +124,9 @@ fn far_numbers_do_not_wrap(rt: HostRuntime) {
         meets_all(diagonal, [-far, far], 1 << 31),
         "the cubes around a diagonal"
     );
-    let whole = [
-        [i32::MIN, i32::MIN, i32::MIN],
-        [i32::MAX, i32::MAX, i32::MAX],
-        [i32::MAX, i32::MIN, i32::MAX],
-    ];
     assert!(rt;
         meets(
-            whole,
+            WHOLE,
             &Cube {
                 lo: [-FAR, -FAR, -FAR],
                 hi: [FAR, FAR, FAR]
@@ -134,7 +136,7 @@ fn far_numbers_do_not_wrap(rt: HostRuntime) {
     );
     assert!(rt;
         meets(
-            whole,
+            WHOLE,
             &Cube {
                 lo: [-FAR, -FAR, 0],
                 hi: [FAR, FAR, 0]
@@ -142,9 +144,13 @@ fn far_numbers_do_not_wrap(rt: HostRuntime) {
         ),
         "a plane of points"
     );
+}
+
+#[test]
+fn far_cubes_are_missed(rt: HostRuntime) {
     assert!(rt;
         !meets(
-            whole,
+            WHOLE,
             &Cube {
                 lo: [FAR, FAR, FAR],
                 hi: [FAR, FAR, FAR]
@@ -154,7 +160,7 @@ fn far_numbers_do_not_wrap(rt: HostRuntime) {
     );
     assert!(rt;
         !meets(
-            whole,
+            WHOLE,
             &Cube {
                 lo: [0, 5, 0],
                 hi: [1, FAR, 1]
