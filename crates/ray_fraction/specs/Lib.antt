@@ -1,0 +1,4 @@
+pub mod Fractions
+pub mod RayFrom
+pub mod RayLimits
+pub mod RayShape
