@@ -1,5 +1,5 @@
 -- Which numbers make a ray, and which limit the others break first.
-use Rattle.std.specs.Prelude.{ℕ, ◌^◌, not, if◌then◌else◌, List, ℤ, Result, Ok, Err}
+use Rattle.std.specs.Prelude.{◌^◌, not, if◌then◌else◌, List, ℤ, Result, Ok, Err}
 use Rattle.std.specs.List.{list_all}
 use Rattle.ray_fraction.specs.RayLimits.{is_within, is_zero}
 use Rattle.ray_fraction.specs.RayShape.{RayShape}

@@ -1,5 +1,5 @@
 -- A ray, and the limits that every ray meets.
-use Rattle.std.specs.Prelude.{◌≡◌, ℕ, ◌^◌, ◌≤◌, List, length, ℤ, unsigned_abs, All, false}
+use Rattle.std.specs.Prelude.{◌≡◌, ◌^◌, ◌≤◌, List, ℤ, unsigned_abs, All, false}
 use Rattle.std.specs.List.{list_all}
 use Rattle.ray_fraction.specs.RayLimits.{is_zero}
 
