@@ -1,5 +1,5 @@
 -- What a call does to the bytes of a device. Bytes that a device does not tell stay untold.
-use Rattle.std.specs.Prelude.{◌≡◌, ℕ, ◌≤◌, List, [], length, take, Option, Result, OnOk, IfOk, MatchResult}
+use Rattle.std.specs.Prelude.{◌≡◌, ℕ, ◌≤◌, List, take, Option, Result, IfOk, MatchResult}
 use Rattle.std.specs.Io.KnownBytes.{append_known, prepend_known, IsAtEnd}
 
 -- a read gives at most so many bytes

@@ -16,7 +16,8 @@ pub trait ByteSource {
     /// The bytes still to come, where the source tells them.
     ghost rest: { Self → Option (List ℕ) };
 
-    /// The faults so far. The count never falls, and stands at 2^64 - 1 once it is there.
+    /// The faults so far. The count never falls; at 2^64 - 1, the last value of a counter of 64 bits,
+    /// it may stay while faults go on.
     ghost faults: { Self → ℕ };
 
     /// Reads the next bytes into the front of `into`, and answers how many: at most its length, and
@@ -33,7 +34,8 @@ pub trait ByteSink {
     /// The bytes written, where the sink tells them.
     ghost written: { Self → Option (List ℕ) };
 
-    /// The faults so far. The count never falls, and stands at 2^64 - 1 once it is there.
+    /// The faults so far. The count never falls; at 2^64 - 1, the last value of a counter of 64 bits,
+    /// it may stay while faults go on.
     ghost faults: { Self → ℕ };
 
     /// Writes the whole piece at the end. A refused call has written some front of it.
