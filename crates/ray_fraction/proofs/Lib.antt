@@ -1,1 +1,7 @@
+pub mod Ends
+pub mod Gone
 pub mod LowestTerms
+pub mod Order
+pub mod TimeOrder
+pub mod Whereabouts
+mod WorkedTimes

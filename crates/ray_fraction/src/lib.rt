@@ -2,9 +2,19 @@
 #![tactic(auto)]
 
 mod divisors;
+mod fractions;
+mod laws;
+mod passing;
 mod rays;
+mod slabs;
+mod spans;
 mod times;
 
+pub use laws::{
+    entries_bound_times, entries_have_a_least, times_are_ordered, times_grow_with_cubes,
+    times_have_no_gaps,
+};
+pub use passing::{entry, exit};
 pub use rays::{Ray, RayFault};
 pub use times::{Time, compare};
 
