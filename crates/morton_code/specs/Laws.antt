@@ -1,9 +1,10 @@
 -- What codes say of the nodes above and below them, and of the nodes' cubes.
-use Rattle.std.specs.Prelude.{◌≡◌, ℕ, ◌+◌, ◌*◌, ◌/◌, ◌%◌, ◌^◌, ◌<◌, ◌≤◌, ◌↔◌, ℤ, pos, ◌*ℤ◌, ◌≤ℤ◌}
+use Rattle.std.specs.Prelude.{◌≡◌, ℕ, List, ◌+◌, ◌*◌, ◌/◌, ◌%◌, ◌^◌, ◌<◌, ◌≤◌, ◌↔◌, ℤ, pos, ◌*ℤ◌, ◌≤ℤ◌}
 use Rattle.svo_base.specs.GridShape.{GridShape}
 use Rattle.svo_base.specs.declared.shapes.Cube.{Cube}
 use Rattle.svo_base.specs.declared.shapes.Triangle.{Triangle}
 use Rattle.octree_specs.specs.Meeting.{low_of, high_of, Meets}
+use Rattle.octree_specs.specs.Filling.{AreFilledCodes}
 use Rattle.octree_specs.specs.NodeCube.{code_of, coordinate_of, node_cube}
 
 -- a child's code without its last digit is its parent's, and the digit is the child's place among its siblings
@@ -51,3 +52,8 @@ pub record MeetTogether : Type 0 where
       → Meets t (node_cube grid (level + 1) (8 * node + place)) → Meets t (node_cube grid level node)
   pub child : (t : Triangle) (grid : GridShape) (level node : ℕ) → level < grid.depth
       → Meets t (node_cube grid level node) → (place : ℕ) × (place < 8) × Meets t (node_cube grid (level + 1) (8 * node + place))
+
+-- a grid and triangles have one list of filled codes
+abbrev pub HaveOneList : Type 0
+HaveOneList = (grid : GridShape) (triangles : List Triangle) (first second : List ℕ)
+    → AreFilledCodes grid triangles first → AreFilledCodes grid triangles second → first ≡ second

@@ -1,7 +1,7 @@
 //! Laws of codes and of the cubes that they stand for. Each function does nothing: a caller has
 //! its `ensures`.
 
-ghost use Rattle.morton_code.specs.Laws.{NamesParent, HalvesCoordinates, IgnoresLeadingZeros, AreRanges, AreInOrder, CoverParent, MeetTogether};
+ghost use Rattle.morton_code.specs.Laws.{NamesParent, HalvesCoordinates, IgnoresLeadingZeros, AreRanges, AreInOrder, CoverParent, MeetTogether, HaveOneList};
 
 /// A code names its parent and its place among its siblings.
 pub fn codes_name_parents()
@@ -36,4 +36,9 @@ pub fn children_cover_their_parent()
 /// A triangle meets a node exactly where it meets one of the children.
 pub fn children_are_met_with_their_parent()
     ensures { MeetTogether }
+{}
+
+/// A grid and triangles have one list of filled cells, and so one node file.
+pub fn filled_cells_are_one_list()
+    ensures { HaveOneList }
 {}

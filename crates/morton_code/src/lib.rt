@@ -10,7 +10,8 @@ pub use codes::{decode, encode};
 pub use cubes::cube_of;
 pub use laws::{
     children_are_in_order, children_are_met_with_their_parent, children_cover_their_parent,
-    codes_name_parents, leading_zeros_change_nothing, nodes_are_ranges, parents_halve_coordinates,
+    codes_name_parents, filled_cells_are_one_list, leading_zeros_change_nothing, nodes_are_ranges,
+    parents_halve_coordinates,
 };
 pub use runs::{Run, aligned_run};
 

@@ -1,3 +1,11 @@
+pub mod Along
+pub mod Candidates
+pub mod CodeSets
+pub mod Cones
+pub mod Filled
+pub mod FillingByCandidates
 pub mod Integers
+pub mod Meetings
 pub mod SignedTerms
+pub mod Vectors
 pub mod WorkedCases

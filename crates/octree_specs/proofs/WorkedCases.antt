@@ -1,16 +1,21 @@
 -- Small examples, computed from the definitions alone: what each definition says of a case that was worked out by hand.
 use Rattle.std.proofs.Common.{◌≡◌, ℕ, List, [], ◌∷◌, ◌++◌, refl, false, ℤ, pos, negsuc, lit<}
 use Rattle.std.specs.Prelude.{codes}
+use Rattle.std.proofs.lemmas.Bool.{both_ways}
 use Rattle.std.proofs.lemmas.Fmt.{decimal_digit}
 use Rattle.svo_base.specs.GridShape.{GridShape}
 use Rattle.svo_base.specs.declared.shapes.Point.{Point}
 use Rattle.svo_base.specs.declared.shapes.Triangle.{Triangle}
+use Rattle.svo_base.specs.declared.shapes.Cube.{Cube}
 use Rattle.octree_specs.specs.Mesh.{Mesh, triangles_of}
-use Rattle.octree_specs.specs.Meeting.{rows_of, has_good_candidate}
+use Rattle.octree_specs.specs.Meeting.{Meets}
+use Rattle.octree_specs.specs.Candidates.{rows_of, has_good_candidate}
 use Rattle.octree_specs.specs.NodeCube.{coordinate_of, node_cube}
 use Rattle.octree_specs.specs.NodeWords.{children_of, size_of, mask_of, base_of, below_of, words_of}
 use Rattle.octree_specs.specs.NodeFile.{header_of, trailer_of, image_of}
-use Rattle.octree_specs.specs.Filling.{is_filled, filled_codes}
+use Rattle.octree_specs.specs.Filling.{AreFilledCodes}
+use Rattle.octree_specs.proofs.FillingByCandidates.{is_filled, filled_codes, computed}
+use Rattle.octree_specs.proofs.Meetings.{meeting_has_candidate}
 use Rattle.octree_specs.specs.PlainText.{plain_header, vertex_line, face_line, plain_text}
 
 point : ℕ → ℕ → ℕ → Point
@@ -32,14 +37,23 @@ dot_mesh : ℕ → Mesh
 dot_mesh at = record { vertices = point at at at ∷ []; faces = (0 ∷ 0 ∷ 0 ∷ []) ∷ [] }
 
 -- the flat triangle fills the cells 0, 1, 2: at 3 the cube's nearest corner, (1, 1, 0), is beyond the long side
-flat_cells : filled_codes (unit_grid 1) (triangles_of flat_mesh) ≡ 0 ∷ 1 ∷ 2 ∷ []
+flat_cells : AreFilledCodes (unit_grid 1) (triangles_of flat_mesh) (0 ∷ 1 ∷ 2 ∷ [])
 unfolding flat_mesh unit_grid point filled_codes is_filled has_good_candidate rows_of node_cube coordinate_of triangles_of
-flat_cells = refl
+flat_cells = computed _ _ _ refl
+
+slanted : Triangle
+slanted = record { a = point 4 0 0; b = point 0 4 0; c = point 0 0 4 }
+
+unit_cube : Cube
+unit_cube = record { lo = pos 0 ∷ pos 0 ∷ pos 0 ∷ []; hi = pos 1 ∷ pos 1 ∷ pos 1 ∷ [] }
+
+no_candidate : has_good_candidate slanted unit_cube ≡ false
+unfolding slanted unit_cube point has_good_candidate rows_of
+no_candidate = refl
 
 -- a cube that the triangle's box meets, and that the triangle misses
-past_the_side : has_good_candidate (record { a = point 4 0 0; b = point 0 4 0; c = point 0 0 4 }) (record { lo = pos 0 ∷ pos 0 ∷ pos 0 ∷ []; hi = pos 1 ∷ pos 1 ∷ pos 1 ∷ [] }) ≡ false
-unfolding point has_good_candidate rows_of
-past_the_side = refl
+past_the_side : Meets slanted unit_cube → ⊥
+past_the_side met = both_ways (has_good_candidate slanted unit_cube) no_candidate (meeting_has_candidate slanted unit_cube met)
 
 -- eight cells that meet in one point
 dot_words : words_of (7 ∷ 14 ∷ 21 ∷ 28 ∷ 35 ∷ 42 ∷ 49 ∷ 56 ∷ []) 2 ≡ 128 ∷ 64 ∷ 32 ∷ 16 ∷ 8 ∷ 4 ∷ 2 ∷ 1 ∷ 255 ∷ []
@@ -62,29 +76,29 @@ unfolding words_of below_of size_of mask_of base_of children_of
 no_words = refl
 
 -- a face that is not there fills nothing
-empty_cells : filled_codes (unit_grid 1) (triangles_of (record { vertices = flat_mesh.vertices; faces = [] })) ≡ []
+empty_cells : AreFilledCodes (unit_grid 1) (triangles_of (record { vertices = flat_mesh.vertices; faces = [] })) []
 unfolding flat_mesh unit_grid point filled_codes is_filled triangles_of
-empty_cells = refl
+empty_cells = computed _ _ _ refl
 
 -- the same face twice, once turned round, fills the same cells
-turned_cells : filled_codes (unit_grid 1) (triangles_of (record { vertices = flat_mesh.vertices; faces = (0 ∷ 1 ∷ 2 ∷ []) ∷ (2 ∷ 1 ∷ 0 ∷ []) ∷ [] })) ≡ 0 ∷ 1 ∷ 2 ∷ []
+turned_cells : AreFilledCodes (unit_grid 1) (triangles_of (record { vertices = flat_mesh.vertices; faces = (0 ∷ 1 ∷ 2 ∷ []) ∷ (2 ∷ 1 ∷ 0 ∷ []) ∷ [] })) (0 ∷ 1 ∷ 2 ∷ [])
 unfolding flat_mesh unit_grid point filled_codes is_filled has_good_candidate rows_of node_cube coordinate_of triangles_of
-turned_cells = refl
+turned_cells = computed _ _ _ refl
 
 -- far from the grid it fills none
-far_cells : filled_codes (record { depth = 1; origin = pos 10 ∷ pos 10 ∷ pos 10 ∷ []; cell = 1 }) (triangles_of flat_mesh) ≡ []
+far_cells : AreFilledCodes (record { depth = 1; origin = pos 10 ∷ pos 10 ∷ pos 10 ∷ []; cell = 1 }) (triangles_of flat_mesh) []
 unfolding flat_mesh point filled_codes is_filled has_good_candidate rows_of node_cube coordinate_of triangles_of
-far_cells = refl
+far_cells = computed _ _ _ refl
 
 -- a point where eight cells meet fills all eight, since cubes are closed
-dot_cells : filled_codes (unit_grid 2) (triangles_of (dot_mesh 2)) ≡ 7 ∷ 14 ∷ 21 ∷ 28 ∷ 35 ∷ 42 ∷ 49 ∷ 56 ∷ []
+dot_cells : AreFilledCodes (unit_grid 2) (triangles_of (dot_mesh 2)) (7 ∷ 14 ∷ 21 ∷ 28 ∷ 35 ∷ 42 ∷ 49 ∷ 56 ∷ [])
 unfolding dot_mesh unit_grid point filled_codes is_filled has_good_candidate rows_of node_cube coordinate_of triangles_of
-dot_cells = refl
+dot_cells = computed _ _ _ refl
 
 -- a point on the grid's outer corner fills the last cell alone
-last_cell : filled_codes (unit_grid 2) (triangles_of (dot_mesh 4)) ≡ 63 ∷ []
+last_cell : AreFilledCodes (unit_grid 2) (triangles_of (dot_mesh 4)) (63 ∷ [])
 unfolding dot_mesh unit_grid point filled_codes is_filled has_good_candidate rows_of node_cube coordinate_of triangles_of
-last_cell = refl
+last_cell = computed _ _ _ refl
 
 -- the widest grid, and a triangle across it
 across : Triangle
@@ -105,9 +119,9 @@ across = record { a = low_point; b = high_point; c = mixed_point }
     mixed_point : Point
     mixed_point = record { x = greatest; y = least; z = greatest }
 
-all_eight : filled_codes (record { depth = 1; origin = negsuc 1073741823 ∷ negsuc 1073741823 ∷ negsuc 1073741823 ∷ []; cell = 2147483648 }) (across ∷ []) ≡ 0 ∷ 1 ∷ 2 ∷ 3 ∷ 4 ∷ 5 ∷ 6 ∷ 7 ∷ []
+all_eight : AreFilledCodes (record { depth = 1; origin = negsuc 1073741823 ∷ negsuc 1073741823 ∷ negsuc 1073741823 ∷ []; cell = 2147483648 }) (across ∷ []) (0 ∷ 1 ∷ 2 ∷ 3 ∷ 4 ∷ 5 ∷ 6 ∷ 7 ∷ [])
 unfolding across filled_codes is_filled has_good_candidate rows_of node_cube coordinate_of
-all_eight = refl
+all_eight = computed _ _ _ refl
 
 -- the text of the flat triangle
 flat_text : plain_text flat_mesh ≡ codes "ply\nformat ascii 1.0\nelement vertex 3\nproperty int x\nproperty int y\nproperty int z\nelement face 1\nproperty list uchar int vertex_indices\nend_header\n0 0 0\n1 0 0\n0 1 0\n3 0 1 2\n"

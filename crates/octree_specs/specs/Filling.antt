@@ -1,15 +1,18 @@
 -- The cells of a grid that a mesh fills.
-use Rattle.std.specs.Prelude.{ℕ, ◌^◌, Bool, List, filter}
-use Rattle.std.specs.List.{list_any, range_with_len}
+use Rattle.std.specs.Prelude.{ℕ, ◌^◌, ◌<◌, List, All}
+use Rattle.std.specs.List.{Any, Contains}
 use Rattle.svo_base.specs.GridShape.{GridShape}
 use Rattle.svo_base.specs.declared.shapes.Triangle.{Triangle}
-use Rattle.octree_specs.specs.Meeting.{has_good_candidate}
+use Rattle.octree_specs.specs.Meeting.{Meets}
 use Rattle.octree_specs.specs.NodeCube.{node_cube}
+use Rattle.octree_specs.specs.NodeWords.{AreCells}
 
 -- some triangle meets the cell's cube
-unfoldable pub is_filled : GridShape → List Triangle → ℕ → Bool
-is_filled grid triangles code = list_any (λ t. has_good_candidate t (node_cube grid grid.depth code)) triangles
+abbrev pub IsFilled : GridShape → List Triangle → ℕ → Type 0
+IsFilled grid triangles code = Any (λ t. Meets t (node_cube grid grid.depth code)) triangles
 
 -- the codes of the filled cells, in ascending order
-unfoldable pub filled_codes : GridShape → List Triangle → List ℕ
-filled_codes grid triangles = filter (is_filled grid triangles) (range_with_len 0 (8 ^ grid.depth))
+pub record AreFilledCodes (grid : GridShape) (triangles : List Triangle) (cells : List ℕ) : Type 0 where
+  pub set : AreCells grid.depth cells
+  pub filled : All (IsFilled grid triangles) cells
+  pub complete : (code : ℕ) → code < 8 ^ grid.depth → IsFilled grid triangles code → Contains cells code

@@ -1,3 +1,4 @@
+pub mod Candidates
 pub mod Filling
 pub mod Meeting
 pub mod Mesh

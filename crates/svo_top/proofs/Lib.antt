@@ -1,5 +1,5 @@
+pub mod CellCounts
 pub mod Digits
-pub mod FilledCells
 pub mod NumberLists
 pub mod Plans
 pub mod Puts

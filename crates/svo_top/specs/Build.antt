@@ -5,7 +5,7 @@ use Rattle.dev_traits.specs.Change.{Change, IsFaultless, IsKept, Grew}
 use Rattle.svo_base.specs.GridShape.{GridShape}
 use Rattle.octree_specs.specs.Mesh.{Mesh, triangles_of}
 use Rattle.octree_specs.specs.PlainText.{IsPlainText}
-use Rattle.octree_specs.specs.Filling.{filled_codes}
+use Rattle.octree_specs.specs.Filling.{AreFilledCodes}
 use Rattle.octree_specs.specs.NodeWords.{AreCells, words_of}
 use Rattle.octree_specs.specs.NodeFile.{image_of}
 use Rattle.svo_top.specs.Ranges.{grid_of_words}
@@ -24,7 +24,7 @@ IsNotPlain text = (mesh : Mesh) → IsPlainText text mesh → ⊥
 
 -- the cells of the grid that some triangle of the text's mesh meets
 abbrev pub AreFilledBy : List ℕ → GridShape → List ℕ → Type 0
-AreFilledBy text grid cells = (mesh : Mesh) × IsPlainText text mesh × (cells ≡ filled_codes grid (triangles_of mesh))
+AreFilledBy text grid cells = (mesh : Mesh) × IsPlainText text mesh × AreFilledCodes grid (triangles_of mesh) cells
 
 -- the input was read to its end, and these are the words' grid and its cells that the mesh fills
 pub record Plans (job : BuildWords) (input : Change) (grid : GridShape) (cells : List ℕ) : Type 0 where

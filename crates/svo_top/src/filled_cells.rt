@@ -1,9 +1,9 @@
 //! The cells of a grid that a mesh fills, found by trying each of them.
 
-ghost use Rattle.std.specs.Prelude.{◌≡◌, ◌<◌, ◌^◌, IfOk};
-ghost use Rattle.std.specs.List.{list_any};
-ghost use Rattle.octree_specs.specs.Meeting.{HasPlanes, has_good_candidate};
-ghost use Rattle.octree_specs.specs.Filling.{is_filled, filled_codes};
+ghost use Rattle.std.specs.Prelude.{◌≡◌, ◌<◌, ◌^◌, ◌↔◌, IfOk, IsTrue};
+ghost use Rattle.std.specs.List.{Any};
+ghost use Rattle.octree_specs.specs.Meeting.{HasPlanes, Meets};
+ghost use Rattle.octree_specs.specs.Filling.{IsFilled, AreFilledCodes};
 
 use morton_code::cube_of;
 use std::alloc::{AllocError, Global};
@@ -18,13 +18,12 @@ pub fn filled_cells(
     grid: &Grid,
     triangles: &[Triangle],
 ) -> Result<Vec<u64>, AllocError>
-    ensures { IfOk result (λ cells. cells.items ≡ filled_codes grid.now triangles.now) }
+    ensures { IfOk result (λ cells. AreFilledCodes grid.now triangles.now cells.items) }
 {
     filled_in::<Brand>(alloc, grid, triangles, Blank::new(1))
 }
 
 /// The same, with a counter of tests in the ledger that the blank is for.
-#[tactic(auto, unfolding(octree_specs::specs::Filling::filled_codes))]
 fn filled_in<L: Ledger>(
     alloc: Global,
     grid: &Grid,
@@ -34,7 +33,7 @@ fn filled_in<L: Ledger>(
     requires name { blank.name ≡ L.name }
     requires parts { blank.parts ≡ L.parts }
     requires one { 0 < blank.parts }
-    ensures { IfOk result (λ cells. cells.items ≡ filled_codes grid.now triangles.now) }
+    ensures { IfOk result (λ cells. AreFilledCodes grid.now triangles.now cells.items) }
 {
     let mut tests = Steps::<L>::new(blank);
     let mut cells = Vec::new(alloc);
@@ -54,7 +53,6 @@ fn cell_count(grid: &Grid) -> u64
 }
 
 /// Whether some triangle meets the cube of a cell.
-#[tactic(auto, unfolding(octree_specs::specs::Filling::is_filled))]
 fn is_filled<L: Ledger>(
     grid: &Grid,
     triangles: &[Triangle],
@@ -62,7 +60,7 @@ fn is_filled<L: Ledger>(
     tests: &mut Steps<L>,
 ) -> bool
     requires { code < 8 ^ grid.now.depth }
-    ensures { result ≡ is_filled grid.now triangles.now code }
+    ensures { IsTrue result ↔ IsFilled grid.now triangles.now code }
 {
     let cube = cube_of(grid, grid.depth(), code);
     meets_any(triangles, &cube, tests)
@@ -71,7 +69,7 @@ fn is_filled<L: Ledger>(
 /// Whether some triangle meets a cube.
 fn meets_any<L: Ledger>(triangles: &[Triangle], cube: &Cube, tests: &mut Steps<L>) -> bool
     requires { HasPlanes cube.now }
-    ensures { result ≡ list_any (λ t. has_good_candidate t cube.now) triangles.now }
+    ensures { IsTrue result ↔ Any (λ t. Meets t cube.now) triangles.now }
 {
     for triangle in triangles {
         if overlaps(triangle, cube, tests) {

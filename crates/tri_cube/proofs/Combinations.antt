@@ -10,12 +10,12 @@ use Rattle.svo_base.specs.declared.shapes.Triangle.{Triangle}
 use Rattle.svo_base.specs.declared.shapes.Cube.{Cube}
 use Rattle.svo_base.specs.declared.shapes.Vector.{Vector}
 use Rattle.octree_specs.specs.Vectors.{vector, dot_of, is_zero_vector}
-use Rattle.octree_specs.specs.Meeting.{is_good, rows_of, candidates_of, has_good_candidate}
+use Rattle.octree_specs.specs.Candidates.{is_good, rows_of, candidates_of, has_good_candidate}
 use Rattle.octree_specs.proofs.Integers.{product_at_most, product_not_negative}
+use Rattle.octree_specs.proofs.Vectors.{dot_of-unit_x, dot_of-unit_y, dot_of-unit_z}
 use Rattle.octree_specs.proofs.SignedTerms.{the, plus, times, same}
 use Rattle.tri_cube.specs.Apart.{is_negative, times_of, sum_of, combination_of, IsApart}
 use Rattle.tri_cube.specs.Sides.{unit_rows, sides_of}
-use Rattle.tri_cube.proofs.UnitRows.{dot_first, dot_second, dot_third}
 
 abbrev unit_row : ℕ → Vector
 unit_row i = get_or unit_rows i (vector (pos 0) (pos 0) (pos 0))
@@ -36,9 +36,9 @@ good_parts sides w good =
     let second = and_parts (passes (unit_row 1)) (list_all passes (unit_row 2 ∷ sides)) first.1 in
     let third = and_parts (passes (unit_row 2)) (list_all passes sides) second.1 in
     record {
-      x = omega (arith, ints, first.0, dot_first w);
-      y = omega (arith, ints, second.0, dot_second w);
-      z = omega (arith, ints, third.0, dot_third w);
+      x = omega (arith, ints, first.0, dot_of-unit_x w);
+      y = omega (arith, ints, second.0, dot_of-unit_y w);
+      z = omega (arith, ints, third.0, dot_of-unit_z w);
       some = not-true (is_zero_vector w) whole.0;
       clear = third.1;
     }

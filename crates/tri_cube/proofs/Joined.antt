@@ -5,7 +5,7 @@ use Rattle.std.proofs.lemmas.List.Concat.{flat_map-cons}
 use Rattle.std.proofs.lemmas.List.Folds.{list_any-append}
 use Rattle.svo_base.specs.declared.shapes.Vector.{Vector}
 use Rattle.octree_specs.specs.Vectors.{cross_of, opposite_of}
-use Rattle.octree_specs.specs.Meeting.{candidates_of, candidates_with, is_good}
+use Rattle.octree_specs.specs.Candidates.{candidates_of, candidates_with, is_good}
 use Rattle.tri_cube.specs.Pairs.{has_good_pair}
 use Rattle.tri_cube.specs.Sides.{unit_rows}
 

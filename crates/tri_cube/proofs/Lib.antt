@@ -1,3 +1,2 @@
 pub mod Combinations
 pub mod Joined
-pub mod UnitRows

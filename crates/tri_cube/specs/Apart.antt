@@ -3,7 +3,7 @@ use Rattle.std.specs.Prelude.{◌≡◌, Bool, false, ◌&&◌, List, ◌++◌, 
 use Rattle.svo_base.specs.declared.shapes.Point.{Point}
 use Rattle.svo_base.specs.declared.shapes.Vector.{Vector}
 use Rattle.octree_specs.specs.Vectors.{vector}
-use Rattle.octree_specs.specs.Meeting.{is_good}
+use Rattle.octree_specs.specs.Candidates.{is_good}
 use Rattle.tri_cube.specs.Sides.{unit_rows}
 
 -- all three numbers are below 0

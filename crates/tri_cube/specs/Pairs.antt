@@ -3,7 +3,7 @@ use Rattle.std.specs.Prelude.{Bool, List, [], ◌∷◌, ◌++◌}
 use Rattle.std.specs.List.{list_any}
 use Rattle.svo_base.specs.declared.shapes.Vector.{Vector}
 use Rattle.octree_specs.specs.Vectors.{cross_of, opposite_of}
-use Rattle.octree_specs.specs.Meeting.{is_good}
+use Rattle.octree_specs.specs.Candidates.{is_good}
 use Rattle.tri_cube.specs.Sides.{unit_rows}
 
 -- one of the two is good for the unit rows and these sides

@@ -4,7 +4,8 @@ use Rattle.svo_base.specs.declared.shapes.Triangle.{Triangle}
 use Rattle.svo_base.specs.declared.shapes.Cube.{Cube}
 use Rattle.svo_base.specs.declared.shapes.Vector.{Vector}
 use Rattle.octree_specs.specs.Vectors.{vector}
-use Rattle.octree_specs.specs.Meeting.{above_plane, below_plane, low_of, high_of}
+use Rattle.octree_specs.specs.Meeting.{low_of, high_of}
+use Rattle.octree_specs.specs.Candidates.{above_plane, below_plane}
 
 -- the rows that weights clear where none of them is negative
 abbrev pub unit_rows : List Vector

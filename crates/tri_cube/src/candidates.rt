@@ -4,7 +4,7 @@
 ghost use Rattle.std.specs.Prelude.{◌≡◌, ◌++◌, ◌^◌, ◌&&◌, pos, int_le};
 ghost use Rattle.std.specs.List.{list_all, list_any};
 ghost use Rattle.octree_specs.specs.Vectors.{IsWithin, dot_of, is_zero_vector};
-ghost use Rattle.octree_specs.specs.Meeting.{candidates_of, is_good};
+ghost use Rattle.octree_specs.specs.Candidates.{candidates_of, is_good};
 ghost use Rattle.tri_cube.specs.Pairs.{has_good_pair};
 ghost use Rattle.tri_cube.specs.Sides.{unit_rows};
 
@@ -55,7 +55,7 @@ fn are_weights(weights: &Vector) -> bool
 }
 
 /// Whether no weight is negative.
-#[tactic(auto, using(crate::proofs::UnitRows::products_with_units))]
+#[tactic(auto, using(octree_specs::proofs::Vectors::products_with_units))]
 fn clears_units(weights: &Vector) -> bool
     ensures { result ≡ list_all (λ row. int_le (pos 0) (dot_of weights.now row)) unit_rows }
 {

@@ -1,6 +1,6 @@
 use Rattle.std.proofs.Common.{◌*◌, ◌^◌, arith, ap, ◌∙◌}
 use Rattle.std.proofs.lemmas.Nat.{one_shl}
-use Rattle.svo_top.proofs.FilledCells.{eight_to}
+use Rattle.svo_top.proofs.CellCounts.{eight_to}
 use Rattle.svo_top.proofs.filled_cells.cell_count.Goals as goal
 
 pub returns : goal.returns
