@@ -21,9 +21,9 @@ IsFaulted change = Rose change.faults_before change.faults_after
 abbrev pub IsFaultless : Change → Type 0
 IsFaultless change = DidNotRise change.faults_before change.faults_after
 
--- its bytes stayed as they were
+-- its bytes and its count of faults stayed as they were
 abbrev pub IsKept : Change → Type 0
-IsKept change = change.after ≡ change.before
+IsKept change = (change.after ≡ change.before) × (change.faults_after ≡ change.faults_before)
 
 -- a sink was given these bytes
 abbrev pub Grew : Change → List ℕ → Type 0

@@ -53,7 +53,8 @@ pub record MeetTogether : Type 0 where
   pub child : (t : Triangle) (grid : GridShape) (level node : ℕ) → level < grid.depth
       → Meets t (node_cube grid level node) → (place : ℕ) × (place < 8) × Meets t (node_cube grid (level + 1) (8 * node + place))
 
--- a grid and triangles have one list of filled codes
-abbrev pub HaveOneList : Type 0
-HaveOneList = (grid : GridShape) (triangles : List Triangle) (first second : List ℕ)
-    → AreFilledCodes grid triangles first → AreFilledCodes grid triangles second → first ≡ second
+-- a grid and triangles have a list of filled codes, and one alone
+pub record HaveOneList : Type 0 where
+  pub some : (grid : GridShape) (triangles : List Triangle) → (cells : List ℕ) × AreFilledCodes grid triangles cells
+  pub one : (grid : GridShape) (triangles : List Triangle) (first second : List ℕ)
+      → AreFilledCodes grid triangles first → AreFilledCodes grid triangles second → first ≡ second

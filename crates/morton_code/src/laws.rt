@@ -1,5 +1,5 @@
-//! Laws of codes and of the cubes that they stand for. Each function does nothing: a caller has
-//! its `ensures`.
+//! Laws of codes and of the cubes that they stand for. Each function does nothing: a call
+//! gives its `ensures`.
 
 ghost use Rattle.morton_code.specs.Laws.{NamesParent, HalvesCoordinates, IgnoresLeadingZeros, AreRanges, AreInOrder, CoverParent, MeetTogether, HaveOneList};
 

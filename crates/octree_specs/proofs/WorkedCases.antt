@@ -1,7 +1,8 @@
 -- Small examples, computed from the definitions alone: what each definition says of a case that was worked out by hand.
-use Rattle.std.proofs.Common.{◌≡◌, ℕ, List, [], ◌∷◌, ◌++◌, refl, false, ℤ, pos, negsuc, lit<}
+use Rattle.std.proofs.Common.{◌≡◌, ℕ, List, [], ◌∷◌, ◌++◌, refl, false, ℤ, pos, negsuc, lit<, arith}
 use Rattle.std.specs.Prelude.{codes}
 use Rattle.std.proofs.lemmas.Bool.{both_ways}
+use Rattle.std.proofs.lemmas.Int.{ints}
 use Rattle.std.proofs.lemmas.Fmt.{decimal_digit}
 use Rattle.svo_base.specs.GridShape.{GridShape}
 use Rattle.svo_base.specs.declared.shapes.Point.{Point}
@@ -54,6 +55,19 @@ no_candidate = refl
 -- a cube that the triangle's box meets, and that the triangle misses
 past_the_side : Meets slanted unit_cube → ⊥
 past_the_side met = both_ways (has_good_candidate slanted unit_cube) no_candidate (meeting_has_candidate slanted unit_cube met)
+
+-- a segment that touches an edge of a cube in its middle, (2, 2, 1)
+touches_an_edge : Meets (record { a = point 4 1 1; b = point 0 3 1; c = point 0 3 1 }) (record { lo = pos 0 ∷ pos 0 ∷ pos 0 ∷ []; hi = pos 2 ∷ pos 2 ∷ pos 2 ∷ [] })
+unfolding point
+touches_an_edge = record {
+  w0 = 1;
+  w1 = 1;
+  w2 = 0;
+  some = omega arith;
+  x = (omega (arith, ints), omega (arith, ints));
+  y = (omega (arith, ints), omega (arith, ints));
+  z = (omega (arith, ints), omega (arith, ints));
+}
 
 -- eight cells that meet in one point
 dot_words : words_of (7 ∷ 14 ∷ 21 ∷ 28 ∷ 35 ∷ 42 ∷ 49 ∷ 56 ∷ []) 2 ≡ 128 ∷ 64 ∷ 32 ∷ 16 ∷ 8 ∷ 4 ∷ 2 ∷ 1 ∷ 255 ∷ []

@@ -1,4 +1,4 @@
--- The 72 candidates of a triangle and a cube: the exact overlap of Schwarz and Seidel (2010), in whole numbers. One of them is good exactly where the two meet: `good_exactly_where_met`, in `proofs/Meetings.antt`.
+-- The 72 candidates of a triangle and a cube: for each two rows the weights on which both are 0. One of them is good exactly where the two meet: `good_exactly_where_met`, in `proofs/Meetings.antt`.
 use Rattle.std.specs.Prelude.{ℤ, pos, ◌-ℤ◌, int_le, Bool, ◌&&◌, not, List, [], ◌∷◌, ◌++◌}
 use Rattle.std.specs.List.{list_all, list_any, flat_map}
 use Rattle.svo_base.specs.declared.shapes.Point.{Point}

@@ -1,5 +1,5 @@
 -- From what a call found to what it answers, and to the lines and tokens of the whole text.
-use Rattle.std.proofs.Common.{◌≡◌, ◌≢◌, ℕ, ◌+◌, ◌-◌, ◌<◌, ◌≤◌, ◌==◌, List, [], ◌∷◌, length, take, drop, Option, None, Some, Result, Ok, Err, IfOk, MatchOption, MatchBool, Bool, true, false, nat_lt, if◌then◌else◌, refl, sym, ap, ◌∙◌, arith, subst}
+use Rattle.std.proofs.Common.{◌≡◌, ◌≢◌, ℕ, ◌+◌, ◌-◌, ◌<◌, ◌≤◌, ◌==◌, List, [], ◌∷◌, length, take, drop, Option, None, Some, Result, Ok, Err, IfOk, IfErr, MatchOption, MatchBool, Bool, true, false, nat_lt, if◌then◌else◌, refl, sym, ap, ◌∙◌, arith, subst}
 use Rattle.std.specs.Bool.{⊤}
 use Rattle.std.specs.List.{prefix_len}
 use Rattle.std.specs.Result.{result_err}
@@ -160,6 +160,11 @@ place_whole place place' text left (Ok (Some p)) answer passed =
 answered-err : {A B : Type 0} (f : A → B) (raw : Result (Option A) TextFault) → result_err raw ≡ result_err (answered f raw)
 answered-err f (Ok x) = refl
 answered-err f (Err e) = refl
+
+-- the faults stay as they are
+pub answered-refused : {A B : Type 0} (f : A → B) (P : TextFault → Type 0) (raw : Result (Option A) TextFault) → IfErr raw P → IfErr (answered f raw) P
+answered-refused f P (Ok x) h = tt
+answered-refused f P (Err e) h = h
 
 answered-fault : {A B : Type 0} (f : A → B) (raw : Result (Option A) TextFault) → answered f raw ≡ Err ReadFault → raw ≡ Err ReadFault
 answered-fault f (Ok x) h = absurd (cc)

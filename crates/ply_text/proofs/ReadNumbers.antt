@@ -9,7 +9,7 @@ use Rattle.ply_text.specs.declared.numbers.NumberFault.TheVariants.{BadNumber, O
 use Rattle.ply_text.specs.declared.numerals.Parts.{Parts}
 use Rattle.ply_text.specs.declared.numerals.Sign.{Sign}
 use Rattle.ply_text.specs.declared.numerals.Sign.TheVariants.{Unsigned, Plus, Minus}
-use Rattle.ply_text.specs.Numerals.{Exponent, Numeral, IsPower, IsExponent, sign_text, fraction_text, exponent_text, spelled, fraction_digits}
+use Rattle.ply_text.specs.Numerals.{Exponent, Numeral, IsExponentDigits, IsExponent, sign_text, fraction_text, exponent_text, spelled, fraction_digits}
 use Rattle.ply_text.specs.NumeralParts.{HasNoSign, SpellsNoCount, SpellsTens, SpellsNoTens, SpellsParts, SpellsNoNumeral, IsWithinBounds, parts_top, parts_bottom, capped}
 use Rattle.ply_text.specs.Scaled.{unless_minus, if_minus, tens_up, tens_down, top_of, bottom_of, signed, settled, number_of, ReadsNumber}
 use Rattle.ply_text.proofs.DigitRuns.{AllDigits-append}
@@ -17,16 +17,16 @@ use Rattle.ply_text.proofs.NumeralLaws.{signs_agree, digits_no_sign, in_order, I
 use Rattle.ply_text.proofs.WholeTokens.{IsWhole}
 
 -- the digits of an exponent are a whole number of at most 9999
-pub power_is_whole : (ds : List ℕ) → IsPower ds → IsWhole ds × (digits_value 10 ds ≤ 9999)
+pub power_is_whole : (ds : List ℕ) → IsExponentDigits ds → IsWhole ds × (digits_value 10 ds ≤ 9999)
 power_is_whole ds good =
     let small : digits_value 10 ds < 10 ^ 4 = lt_of_lt_of_le (digits_value-lt 10 ds good.all) (pow-le-pow_right {n = 10} (lit< tt) {i = length ds} {j = 4} good.few) in
     (record { some = good.some; few = omega (arith, good.few); digits = good.all }, omega (arith, small))
 
 -- behind its sign a text has no digits of an exponent
-pub no_count : (text digits : List ℕ) (sign : Sign) → text ≡ sign_text sign ++ digits → (sign ≡ Unsigned → HasNoSign digits) → (IsPower digits → ⊥) → SpellsNoCount text
+pub no_count : (text digits : List ℕ) (sign : Sign) → text ≡ sign_text sign ++ digits → (sign ≡ Unsigned → HasNoSign digits) → (IsExponentDigits digits → ⊥) → SpellsNoCount text
 no_count text digits sign text_is no_sign never other ds good other_is =
     let both = signs_agree sign other digits ds no_sign (digits_no_sign ds good.all) (sym text_is ∙ other_is) in
-    never (subst IsPower (sym both.1) good)
+    never (subst IsExponentDigits (sym both.1) good)
 
 -- a token that was taken apart and whose rest is no exponent is no number
 pub no_exponent : (token whole rest : List ℕ) (sign : Sign) (fraction : Option (List ℕ)) → IsSplit token sign whole fraction rest → SpellsNoTens rest → SpellsNoNumeral token

@@ -11,18 +11,18 @@ use Rattle.ply_text.specs.Pieces.{Piece, belongs}
 abbrev pub room_at : ℕ → ℕ
 room_at place = 2 ^ 62 - place
 
--- the size of the run at the front of a text: its end is seen within the room, or it is the text's end
+-- the size of the run at the front of a text; `TooLong` where it fills the room and bytes stand behind
 unfoldable pub run_size : Run → ℕ → List ℕ → Result ℕ TextFault
 run_size run room text =
     let size = prefix_len (belongs run) text in
     if nat_le room size && nat_lt room (length text) then Err TooLong else Ok size
 
--- the same where no more than limit of the bytes within the room belong to the run
+-- the same, and the fault where more bytes than the limit belong to the run within the room
 unfoldable pub short_run_size : Run → ℕ → TextFault → ℕ → List ℕ → Result ℕ TextFault
 short_run_size run limit fault room text =
     if nat_lt limit (min (prefix_len (belongs run) text) room) then Err fault else run_size run room text
 
--- a value of the size, or the fault
+-- goes on with the size, or stays at the fault
 abbrev pub sized : {A : Type 0} → Result ℕ TextFault → (ℕ → Result A TextFault) → Result A TextFault
 sized (Ok size) next = next size
 sized (Err fault) next = Err fault

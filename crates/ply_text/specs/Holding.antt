@@ -23,6 +23,10 @@ piece_in block span = record { place = span.place; bytes = slice_range block spa
 abbrev pub LiesIn : List ℕ → Span → Type 0
 LiesIn block span = (span.begin ≤ span.end) × (span.end ≤ length block)
 
+-- the fault of a run that is too long, or one that any run may have
+abbrev pub IsOneOf : TextFault → TextFault → Type 0
+IsOneOf long fault = (fault ≡ long) ⊎ ((fault ≡ TooLong) ⊎ (fault ≡ ReadFault))
+
 -- the answer for a run of which `size` bytes are among `held` bytes at the front of a text
 abbrev pub checked_size : ℕ → TextFault → ℕ → ℕ → ℕ → Result ℕ TextFault
 checked_size limit fault room held size =

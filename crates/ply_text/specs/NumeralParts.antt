@@ -5,7 +5,7 @@ use Rattle.std.specs.Str.Parse.{AllDigits, digits_value}
 use Rattle.ply_text.specs.declared.numerals.Sign.{Sign}
 use Rattle.ply_text.specs.declared.numerals.Tens.{Tens}
 use Rattle.ply_text.specs.declared.numerals.Parts.{Parts}
-use Rattle.ply_text.specs.Numerals.{Exponent, Numeral, IsPower, IsExponent, IsNumeral, sign_text, exponent_text, spelled, fraction_digits}
+use Rattle.ply_text.specs.Numerals.{Exponent, Numeral, IsExponentDigits, IsExponent, IsNumeral, sign_text, exponent_text, spelled, fraction_digits}
 use Rattle.ply_text.specs.Scaled.{tens_up, tens_down}
 
 -- the text begins with no sign
@@ -20,13 +20,13 @@ EndsFraction (Some digits) rest = IsNotAsciiDigit (slice_index rest 0)
 -- the text is a sign and 1 to 4 digits of this number
 pub record SpellsCount (text : List ℕ) (sign : Sign) (count : ℕ) : Type 0 where
   pub digits : List ℕ
-  pub good : IsPower digits
+  pub good : IsExponentDigits digits
   pub spelled : text ≡ sign_text sign ++ digits
   pub number : count ≡ digits_value 10 digits
 
 -- the text is no sign and 1 to 4 digits
 abbrev pub SpellsNoCount : List ℕ → Type 0
-SpellsNoCount text = (sign : Sign) (digits : List ℕ) → IsPower digits → text ≢ sign_text sign ++ digits
+SpellsNoCount text = (sign : Sign) (digits : List ℕ) → IsExponentDigits digits → text ≢ sign_text sign ++ digits
 
 -- the text is an exponent of so many tens
 pub record SpellsTens (text : List ℕ) (tens : Tens) : Type 0 where

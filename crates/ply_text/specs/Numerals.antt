@@ -42,7 +42,7 @@ abbrev pub fraction_digits : Numeral → List ℕ
 fraction_digits n = unwrap_or n.fraction []
 
 -- 1 to 4 digits
-pub record IsPower (digits : List ℕ) : Type 0 where
+pub record IsExponentDigits (digits : List ℕ) : Type 0 where
   pub all : AllDigits 10 digits
   pub some : 1 ≤ length digits
   pub few : length digits ≤ 4
@@ -50,7 +50,7 @@ pub record IsPower (digits : List ℕ) : Type 0 where
 -- an exponent has the letter `e`, which is 101, or `E`, which is 69
 pub record IsExponent (e : Exponent) : Type 0 where
   pub letter : (e.letter ≡ 101) ⊎ (e.letter ≡ 69)
-  pub power : IsPower e.digits
+  pub power : IsExponentDigits e.digits
 
 -- a decimal number has a digit before or after its point
 pub record IsNumeral (n : Numeral) : Type 0 where

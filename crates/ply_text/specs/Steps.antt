@@ -1,5 +1,5 @@
 -- What a call does to a reader.
-use Rattle.std.specs.Prelude.{◌≡◌, ◌≢◌, ℕ, ◌+◌, ◌-◌, ◌^◌, ◌≤◌, List, [], ◌∷◌, length, drop, Option, None, Some, IfSome, MatchOption, Result, Err, IfOk, IfErr, ⊤}
+use Rattle.std.specs.Prelude.{◌≡◌, ◌≢◌, ℕ, ◌+◌, ◌-◌, ◌^◌, ◌<◌, ◌≤◌, List, [], ◌∷◌, length, drop, Option, None, Some, IfSome, MatchOption, Result, Err, IfOk, IfErr, ⊤}
 use Rattle.std.specs.Result.{result_err, result_map_both}
 use Rattle.std.specs.Option.{option_map}
 use Rattle.dev_traits.specs.declared.device.ByteSource.{Ghosts}
@@ -37,6 +37,25 @@ fault_place (TokenTooLong place) = place
 fault_place TooLong = 2 ^ 62
 fault_place ReadFault = 0
 
+-- the faults of each call, and the places that they name
+abbrev pub IsLineFault : ℕ → TextFault → Type 0
+IsLineFault here (LineTooLong place) = place ≡ here
+IsLineFault here (TokenTooLong place) = ⊥
+IsLineFault here TooLong = ⊤
+IsLineFault here ReadFault = ⊤
+
+abbrev pub IsTokenFault : ℕ → TextFault → Type 0
+IsTokenFault here (LineTooLong place) = ⊥
+IsTokenFault here (TokenTooLong place) = place ≡ here
+IsTokenFault here TooLong = ⊤
+IsTokenFault here ReadFault = ⊤
+
+abbrev pub IsPlaceFault : TextFault → Type 0
+IsPlaceFault (LineTooLong place) = ⊥
+IsPlaceFault (TokenTooLong place) = ⊥
+IsPlaceFault TooLong = ⊤
+IsPlaceFault ReadFault = ⊤
+
 -- what each call does: a stopped reader answers its fault again and stays as it is; a fault stops the reader;
 -- a read fails only where the source counted a fault; no byte comes back, and at a fault all bytes before its place were read;
 -- of told bytes a front was passed, at Ok of the size that is given, and the answer is the one defined where the source did not fail
@@ -59,8 +78,9 @@ pub record Call {A : Type 0} (next : ℕ → List ℕ → Result (Option A) Text
 -- of told bytes it is the first line of those left, and none is given only where no byte is left
 pub record LineCall (old new : Reading) (result : Result (Option Piece) TextFault) : Type 0 where
   pub call : Call next_line_of line_size old new result
+  pub refused : old.stopped ≡ None → IfErr result (λ fault. (new.place ≡ old.place) × IsLineFault old.place fault)
   pub bounds : IfOk result (λ found. IfSome found (λ line.
-      (line.place ≡ old.place) × (line.place + length line.bytes ≤ new.place) × IsLine line))
+      (line.place ≡ old.place) × (old.place < new.place) × (line.place + length line.bytes ≤ new.place) × IsLine line))
   pub whole : (text : List ℕ) → old.left ≡ Some text → IfOk result (λ found.
       MatchOption found (text ≡ []) (λ line. header_lines old.place text ≡ line ∷ header_lines new.place (drop (line_size text) text)))
 
@@ -68,6 +88,7 @@ pub record LineCall (old new : Reading) (result : Result (Option Piece) TextFaul
 -- and none is given only where no token is left, and then no byte is left
 pub record TokenCall (old new : Reading) (result : Result (Option Piece) TextFault) : Type 0 where
   pub call : Call next_token_of token_size old new result
+  pub refused : old.stopped ≡ None → IfErr result (IsTokenFault new.place)
   pub bounds : IfOk result (λ found. IfSome found (λ token.
       (old.place ≤ token.place) × (token.place + length token.bytes ≡ new.place) × IsToken token))
   pub whole : (text : List ℕ) → old.left ≡ Some text → IfOk result (λ found.
@@ -78,6 +99,7 @@ pub record TokenCall (old new : Reading) (result : Result (Option Piece) TextFau
 -- and none is given only where no byte is left behind the white space
 pub record PlaceCall (old new : Reading) (result : Result (Option ℕ) TextFault) : Type 0 where
   pub call : Call next_place_of white_size old new result
+  pub refused : old.stopped ≡ None → IfErr result IsPlaceFault
   pub place : IfOk result (λ found. IfSome found (λ place. place ≡ new.place))
   pub whole : (text : List ℕ) → old.left ≡ Some text → IfOk result (λ found.
       (body_tokens old.place text ≡ body_tokens new.place (drop (white_size text) text)) × MatchOption found (new.left ≡ Some []) (λ _. ⊤))

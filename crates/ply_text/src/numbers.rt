@@ -17,7 +17,7 @@ pub enum NumberFault {
     BadNumber,
     /// The number is not whole at the scale, and cutting was not asked for.
     NotWhole,
-    /// Its size at the scale is above 2^30.
+    /// Its size at the scale, cut to a whole number, is above 2^30.
     OutOfRange,
 }
 
@@ -28,8 +28,13 @@ pub enum NumberFault {
 /// one point among, before or after them, then perhaps `e` or `E`, a sign or none, and 1 to 4 digits,
 /// which say by which power of ten the number is multiplied. With `cut` the result is cut toward zero.
 ///
-/// `BadNumber`: the token is anything else. `NotWhole`: the result is not whole, and `cut` was not
-/// asked for. `OutOfRange`: its size, cut to a whole number, is above 2^30.
+/// # Errors
+///
+/// The first of these that holds:
+///
+/// - `BadNumber`: the token is anything else.
+/// - `NotWhole`: the result is not whole, and `cut` was not asked for.
+/// - `OutOfRange`: its size, cut to a whole number, is above 2^30.
 pub fn read_fixed(token: &[u8], decimals: u32, cut: bool) -> Result<i32, NumberFault>
     requires short { length token.now ≤ 255 }
     requires scale { decimals ≤ 9 }

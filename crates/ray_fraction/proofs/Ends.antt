@@ -4,13 +4,13 @@ use Rattle.std.specs.List.{list_all, slice_index_or}
 use Rattle.ray_fraction.specs.Fractions.{IsUpTo}
 use Rattle.ray_fraction.specs.EndTimes.{IsLeastTime, IsGreatestTime}
 use Rattle.ray_fraction.specs.RayLimits.{is_zero}
-use Rattle.ray_fraction.specs.Spans.{AreSameTimes, IsBetween}
+use Rattle.ray_fraction.specs.Spans.{AreSameTimes, IsFromUntil}
 use Rattle.ray_fraction.specs.declared.spans.Interval.{Interval}
 use Rattle.ray_fraction.specs.declared.times.Time.{Time}
 use Rattle.ray_fraction.proofs.Order.{same_start, same_end}
 
 -- the start, in lowest terms, is the least
-pub start_is_least : (At : ℕ → ℕ → Type 0) → ((n m : ℕ) → At n m → 1 ≤ m) → (times : Interval) → AreSameTimes (IsBetween times.from times.until) At →
+pub start_is_least : (At : ℕ → ℕ → Type 0) → ((n m : ℕ) → At n m → 1 ≤ m) → (times : Interval) → AreSameTimes (IsFromUntil times.from times.until) At →
     (t : Time) → t.n * times.from.m ≡ times.from.n * t.m → IsLeastTime At (Some t)
 start_is_least At timed times same t value =
     let from = times.from in
@@ -20,7 +20,7 @@ start_is_least At timed times same t value =
     ((same t.n t.m t.some).0 (starts, ends), λ n m at. same_start from.n from.m t.n t.m n m from.some value ((same n m (timed n m at)).1 at).0)
 
 -- the end, in lowest terms, is the greatest
-pub end_is_greatest : (At : ℕ → ℕ → Type 0) → ((n m : ℕ) → At n m → 1 ≤ m) → (times : Interval) → AreSameTimes (IsBetween times.from times.until) At →
+pub end_is_greatest : (At : ℕ → ℕ → Type 0) → ((n m : ℕ) → At n m → 1 ≤ m) → (times : Interval) → AreSameTimes (IsFromUntil times.from times.until) At →
     (t : Time) → t.n * times.until.m ≡ times.until.n * t.m → IsGreatestTime At (Some t)
 end_is_greatest At timed times same t value =
     let from = times.from in

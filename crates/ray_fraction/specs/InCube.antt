@@ -13,7 +13,7 @@ pub record IsInSlab (origin direction low high : ℤ) (n m : ℕ) : Type 0 where
 abbrev pub IsInAlong : ℕ → RayShape → Cube → ℕ → ℕ → Type 0
 IsInAlong axis ray cube n m = IsInSlab (slice_index_or ray.origin axis (pos 0)) (slice_index_or ray.direction axis (pos 0)) (low_of cube axis) (high_of cube axis) n m
 
--- n / m is a time, and then the ray is in the closed cube
+-- m is at least 1, and at the time n / m the ray is in the closed cube
 pub record InAt (ray : RayShape) (cube : Cube) (n m : ℕ) : Type 0 where
   pub some : 1 ≤ m
   pub x : IsInAlong 0 ray cube n m

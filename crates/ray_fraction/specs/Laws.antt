@@ -37,7 +37,7 @@ pub record GrowWithCube : Type 0 where
 abbrev pub IsNotBefore : Time → RayShape → Cube → Type 0
 IsNotBefore t ray cube = (n m : ℕ) → InAt ray cube n m → IsUpTo t.n t.m n m
 
--- a cube's own entry says from when on a ray can be in it; so does a cube around it, and so does any earlier time
+-- the ray is not in a cube before t exactly where t is at most the entry, or there is none; what holds of a cube around holds of the cube inside; and where t serves, any earlier time does
 pub record BoundedByEntries : Type 0 where
   pub entry : (ray : RayShape) (cube : Cube) (entry : Option Time) (t : Time) → IsLeastTime (InAt ray cube) entry
       → IfSome entry (λ u. IsUpTo t.n t.m u.n u.m) ↔ IsNotBefore t ray cube

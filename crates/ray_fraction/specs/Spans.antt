@@ -7,19 +7,19 @@ use Rattle.ray_fraction.specs.declared.spans.Span.{Span}
 use Rattle.ray_fraction.specs.declared.spans.Span.TheVariants.{Never, Always, Between}
 
 -- n / m is neither before nor after
-abbrev pub IsBetween : Fraction → Fraction → ℕ → ℕ → Type 0
-IsBetween from until n m = IsUpTo from.n from.m n m × IsUpTo n m until.n until.m
+abbrev pub IsFromUntil : Fraction → Fraction → ℕ → ℕ → Type 0
+IsFromUntil from until n m = IsUpTo from.n from.m n m × IsUpTo n m until.n until.m
 
 -- n / m is a time of the span
 abbrev pub IsDuring : Span → ℕ → ℕ → Type 0
 IsDuring Never n m = ⊥
 IsDuring Always n m = ⊤
-IsDuring (Between interval) n m = IsBetween interval.from interval.until n m
+IsDuring (Between interval) n m = IsFromUntil interval.from interval.until n m
 
 -- the same for an interval that may be missing
 abbrev pub IsDuringSome : Option Interval → ℕ → ℕ → Type 0
 IsDuringSome None n m = ⊥
-IsDuringSome (Some interval) n m = IsBetween interval.from interval.until n m
+IsDuringSome (Some interval) n m = IsFromUntil interval.from interval.until n m
 
 -- the times of the first are those of the second
 abbrev pub AreSameTimes : (ℕ → ℕ → Type 0) → (ℕ → ℕ → Type 0) → Type 0

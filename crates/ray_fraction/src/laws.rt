@@ -1,4 +1,4 @@
-//! Laws of the times at which rays are in cubes. Each function does nothing: a caller has its
+//! Laws of the times at which rays are in cubes. Each function does nothing: a call gives its
 //! `ensures`.
 
 ghost use Rattle.ray_fraction.specs.Laws.{HaveNoGaps, GrowWithCube, BoundedByEntries, LeastOfCubes, AreOrdered};
@@ -21,7 +21,7 @@ pub fn entries_bound_times()
 
 /// The least time at which a ray is in some cube of a list is the entry of one of them, before
 /// which it is in none.
-pub fn entries_have_a_least()
+pub fn least_time_is_an_entry()
     ensures { LeastOfCubes }
 {}
 

@@ -11,7 +11,7 @@ mod spans;
 mod times;
 
 pub use laws::{
-    entries_bound_times, entries_have_a_least, times_are_ordered, times_grow_with_cubes,
+    entries_bound_times, least_time_is_an_entry, times_are_ordered, times_grow_with_cubes,
     times_have_no_gaps,
 };
 pub use passing::{entry, exit};

@@ -25,7 +25,8 @@ pub fn entry(ray: &Ray, cube: &Cube) -> Option<Time>
 }
 
 /// The greatest time from 0 on at which the ray is in the closed cube, or `None` where there is
-/// none. Planes of the cube may be at most 2^33 away from 0.
+/// none. Planes of the cube may be at most 2^33 away from 0. A cube with a lower plane above the
+/// upper one has no points.
 pub fn exit(ray: &Ray, cube: &Cube) -> Option<Time>
     requires { HasPlanes cube.now }
     ensures { IsGreatestTime (InAt ray.now cube.now) result }

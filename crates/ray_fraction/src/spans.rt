@@ -22,11 +22,11 @@ pub enum Span {
 
 impl Span {
     ghost use Rattle.std.specs.Prelude.{◌≡◌, ◌≢◌};
-    ghost use Rattle.ray_fraction.specs.Spans.{AreSameTimes, IsBetween, IsDuring};
+    ghost use Rattle.ray_fraction.specs.Spans.{AreSameTimes, IsFromUntil, IsDuring};
 
     /// The times from one on until another.
     pub fn between(from: Fraction, until: Fraction) -> Span
-        ensures times { AreSameTimes (IsDuring result) (IsBetween from until) }
+        ensures times { AreSameTimes (IsDuring result) (IsFromUntil from until) }
         ensures ends { result ≢ Span.Always }
     {
         if from.is_after(&until) {
@@ -51,11 +51,11 @@ impl Span {
 
 impl Interval {
     ghost use Rattle.std.specs.Prelude.{◌≢◌};
-    ghost use Rattle.ray_fraction.specs.Spans.{AreSameTimes, IsBetween, IsDuring};
+    ghost use Rattle.ray_fraction.specs.Spans.{AreSameTimes, IsFromUntil, IsDuring};
 
     /// The times that both have.
     fn meet(&self, other: &Interval) -> Span
-        ensures times { AreSameTimes (IsDuring result) (λ n m. IsBetween self.now.from self.now.until n m × IsBetween other.now.from other.now.until n m) }
+        ensures times { AreSameTimes (IsDuring result) (λ n m. IsFromUntil self.now.from self.now.until n m × IsFromUntil other.now.from other.now.until n m) }
         ensures ends { result ≢ Span.Always }
     {
         let from = self.from.later(&other.from);

@@ -1,6 +1,6 @@
 //! Whether a closed triangle and a closed cube share a point, answered exactly in whole numbers.
-//! The test is the overlap test of Schwarz and Seidel (2010), by the weights of the triangle's
-//! corners.
+//! The question is that of the overlap test of Schwarz and Seidel (2010); it is answered by the
+//! weights of the triangle's corners.
 #![tactic(auto)]
 
 mod candidates;

@@ -53,9 +53,9 @@ impl<I: ByteSource> Tokens<'_, I> {
     ghost use Rattle.std.specs.List.{prefix_len};
     ghost use Rattle.ply_text.specs.Pieces.{belongs, IsLine, IsToken};
     ghost use Rattle.ply_text.specs.Reading.{held, left_of};
-    ghost use Rattle.ply_text.specs.Holding.{IsCaused, Keeps, Holds, ReadsOn, HoldsRun, Passes, PassesWhite, PassedWhite, Finds, LiesIn, checked_size, piece_in};
+    ghost use Rattle.ply_text.specs.Holding.{IsCaused, Keeps, Holds, ReadsOn, HoldsRun, Passes, PassesWhite, PassedWhite, Finds, LiesIn, IsOneOf, checked_size, piece_in};
     ghost use Rattle.ply_text.specs.Calls.{run_size, short_run_size, room_at, line_of, line_size, token_size, white_size, next_line_of, next_place_of, next_token_of};
-    ghost use Rattle.ply_text.specs.Steps.{answered, fault_place};
+    ghost use Rattle.ply_text.specs.Steps.{answered, fault_place, IsLineFault, IsTokenFault, IsPlaceFault};
 
     /// Moves the held bytes to the block's front, so that the next read has the most room.
     fn to_front(&mut self)
@@ -139,6 +139,7 @@ impl<I: ByteSource> Tokens<'_, I> {
         ensures holds { Holds self.old self.new }
         ensures reached { IfErr result (λ fault.
             fault_place fault ≤ self.new.place + (self.new.to - self.new.from)) }
+        ensures kind { IfErr result (IsOneOf fault) }
         ensures answer { (text : List ℕ) → left_of self.old ≡ Some text → result ≢ Err TextFault.ReadFault
             → result ≡ short_run_size run limit fault (room_at self.old.place) text }
         ensures run { IfOk result (λ size. HoldsRun run limit size self.new × (size ≤ limit)
@@ -197,6 +198,7 @@ impl<I: ByteSource> Tokens<'_, I> {
         ensures passes { PassesWhite self.old self.new }
         ensures reached { IfErr result (λ fault.
             fault_place fault ≤ self.new.place + (self.new.to - self.new.from)) }
+        ensures kind { IfErr result IsPlaceFault }
         ensures found { IfOk result (λ found.
             MatchBool found (0 < prefix_len (belongs Run.Token) (held self.new)) (held self.new ≡ [])) }
         ensures answer { (text : List ℕ) → left_of self.old ≡ Some text
@@ -217,6 +219,7 @@ impl<I: ByteSource> Tokens<'_, I> {
     /// `next_place` of a reader that is not stopped.
     pub(super) fn find_place(&mut self) -> Result<Option<u64>, TextFault>
         ensures finds { Finds next_place_of white_size self.old self.new result }
+        ensures refused { IfErr result IsPlaceFault }
         ensures place { IfOk result (λ found. IfSome found (λ place. place ≡ self.new.place)) }
         ensures cause { IsCaused self.old self.new result }
     {
@@ -228,6 +231,7 @@ impl<I: ByteSource> Tokens<'_, I> {
     pub(super) fn find_token(&mut self) -> Result<Option<Span>, TextFault>
         ensures finds { Finds next_token_of token_size self.old self.new
             (answered (piece_in self.new.block.now) result) }
+        ensures refused { IfErr result (IsTokenFault self.new.place) }
         ensures inside { IfOk result (λ found. IfSome found (LiesIn self.new.block.now)) }
         ensures bounds { IfOk (answered (piece_in self.new.block.now) result) (λ found. IfSome found
             (λ token. (self.old.place ≤ token.place) × (token.place + length token.bytes ≡ self.new.place) × IsToken token)) }
@@ -265,9 +269,12 @@ impl<I: ByteSource> Tokens<'_, I> {
     pub(super) fn find_line(&mut self) -> Result<Option<Span>, TextFault>
         ensures finds { Finds next_line_of line_size self.old self.new
             (answered (piece_in self.new.block.now) result) }
+        ensures refused { IfErr result (λ fault.
+            (self.new.place ≡ self.old.place) × IsLineFault self.old.place fault) }
         ensures inside { IfOk result (λ found. IfSome found (LiesIn self.new.block.now)) }
         ensures bounds { IfOk (answered (piece_in self.new.block.now) result)
-            (λ found. IfSome found (λ line. (line.place ≡ self.old.place) × (line.place + length line.bytes ≤ self.new.place) × IsLine line)) }
+            (λ found. IfSome found (λ line. (line.place ≡ self.old.place) × (self.old.place < self.new.place)
+            × (line.place + length line.bytes ≤ self.new.place) × IsLine line)) }
         ensures cause { IsCaused self.old self.new result }
     {
         let place = self.place;

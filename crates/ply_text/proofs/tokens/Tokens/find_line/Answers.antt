@@ -1,4 +1,4 @@
-use Rattle.std.proofs.Common.{◌≡◌, ◌≤◌, ◌+◌, ◌-◌, min, arith, ap, ◌∙◌, sym, refl, subst, length, take, slice_range, List, ℕ}
+use Rattle.std.proofs.Common.{◌≡◌, ◌<◌, ◌≤◌, ◌+◌, ◌-◌, min, arith, ap, ◌∙◌, sym, refl, subst, length, take, slice_range, List, ℕ}
 use Rattle.std.specs.List.{prefix_len}
 use Rattle.std.proofs.lemmas.List.{length-take-le, nil_from_length}
 use Rattle.std.proofs.lemmas.List.Sums.{prefix_len-le-length}
@@ -66,6 +66,7 @@ returns-clause-bounds g c =
     let place = c.args.self.now.place in
     let count : c.min.result ≡ min (n + 1) (t.to - t.from) = c.min.ensures in
     let behind : place + k ≤ d.place = omega (arith, c.pass.ensures.place, c.find_run.ensures.holds.place, count, short, fits) in
+    let further : place < d.place = omega (arith, c.pass.ensures.place, c.find_run.ensures.holds.place, count, c.if-self.false, t.ordered) in
     let P : List ℕ → Type 0 = λ bytes. (place + length bytes ≤ d.place) × IsLine (record { place = place; bytes = bytes }) in
     let both = subst P bytes (omega (arith, size, behind), (omega (arith, size, short, limit), run-passes (belongs Line) k (held t) (omega (arith, short, run)))) in
-    (refl, both.0, both.1)
+    (refl, further, both.0, both.1)

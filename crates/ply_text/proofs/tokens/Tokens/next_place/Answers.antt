@@ -11,6 +11,7 @@ returns-clause-call g c =
     let found = c.find_place-found.ensures in
     record {
       call = Call-from_finds next_place_of white_size a b c.err-self.result result c.in_default.not-Some c.err-self.ensures.value found.finds found.cause;
+      refused = λ _. found.refused;
       place = found.place;
       whole = λ text told. place_whole a.place b.place text (left_of b) result (found.finds.answer text told) (found.finds.passed text told);
     }
