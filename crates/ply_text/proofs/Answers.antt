@@ -16,9 +16,9 @@ use Rattle.ply_text.specs.declared.fault.TextFault.TheVariants.{ReadFault, Token
 use Rattle.ply_text.specs.declared.run.Run.TheVariants.{White, Token, Line}
 use Rattle.ply_text.specs.declared.tokens.Tokens.{Tokens}
 use Rattle.ply_text.specs.Pieces.{Piece, belongs}
-use Rattle.ply_text.specs.Calls.{run_size, short_run_size, room_at, sized, next_place_of, next_token_of, next_line_of, front_token_of, white_size, token_size, line_size, line_of, without_return}
+use Rattle.ply_text.specs.NextPieces.{run_size, short_run_size, room_at, sized, next_place_of, next_token_of, next_line_of, front_token_of, white_size, token_size, line_size, line_of, without_return}
 use Rattle.ply_text.specs.Reading.{held, left_of}
-use Rattle.ply_text.specs.Steps.{fault_place}
+use Rattle.ply_text.specs.Calls.{fault_place}
 use Rattle.ply_text.specs.Holding.{Advances, Holds, Passes, PassedWhite, Finds, HoldsRun}
 
 -- a fault within the white space

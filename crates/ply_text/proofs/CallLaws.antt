@@ -1,5 +1,5 @@
 -- From what a call found to what it answers, and to the lines and tokens of the whole text.
-use Rattle.std.proofs.Common.{◌≡◌, ◌≢◌, ℕ, ◌+◌, ◌-◌, ◌<◌, ◌≤◌, ◌==◌, List, [], ◌∷◌, length, take, drop, Option, None, Some, Result, Ok, Err, IfOk, IfErr, MatchOption, MatchBool, Bool, true, false, nat_lt, if◌then◌else◌, refl, sym, ap, ◌∙◌, arith, subst}
+use Rattle.std.proofs.Common.{◌≡◌, ◌≢◌, ℕ, ◌+◌, ◌-◌, ◌<◌, ◌≤◌, ◌==◌, List, [], ◌∷◌, length, take, drop, Option, None, Some, Result, Ok, Err, IfOk, IfErr, IfNone, MatchOption, MatchBool, Bool, true, false, nat_lt, if◌then◌else◌, refl, sym, ap, ◌∙◌, arith, subst}
 use Rattle.std.specs.Bool.{⊤}
 use Rattle.std.specs.List.{prefix_len}
 use Rattle.std.specs.Result.{result_err}
@@ -15,10 +15,10 @@ use Rattle.ply_text.specs.declared.tokens.Tokens.{Tokens}
 use Rattle.ply_text.specs.Pieces.{Piece, belongs}
 use Rattle.ply_text.specs.HeaderLines.{header_lines}
 use Rattle.ply_text.specs.BodyTokens.{body_tokens}
-use Rattle.ply_text.specs.Calls.{run_size, short_run_size, sized, room_at, next_line_of, next_place_of, next_token_of, front_token_of, line_size, line_of, without_return, white_size, token_size}
+use Rattle.ply_text.specs.NextPieces.{run_size, short_run_size, sized, room_at, next_line_of, next_place_of, next_token_of, front_token_of, line_size, line_of, without_return, white_size, token_size}
 use Rattle.ply_text.specs.Reading.{left_of, reading}
 use Rattle.ply_text.specs.Holding.{Finds, IsCaused}
-use Rattle.ply_text.specs.Steps.{answered, Call}
+use Rattle.ply_text.specs.Calls.{answered, Call}
 use Rattle.ply_text.proofs.Runs.{behind_white}
 use Rattle.ply_text.proofs.RunSizes.{short_run_size-ok}
 use Rattle.ply_text.proofs.Lines.{header_lines-feed, header_lines-last}
@@ -161,6 +161,12 @@ answered-err : {A B : Type 0} (f : A → B) (raw : Result (Option A) TextFault) 
 answered-err f (Ok x) = refl
 answered-err f (Err e) = refl
 
+-- what holds where nothing is given holds of the answer too
+answered-ended : {A B : Type 0} (f : A → B) (P : Type 0) (raw : Result (Option A) TextFault) → IfOk raw (λ found. IfNone found P) → IfOk (answered f raw) (λ found. IfNone found P)
+answered-ended f P (Ok None) h = h
+answered-ended f P (Ok (Some x)) h = tt
+answered-ended f P (Err e) h = tt
+
 -- the faults stay as they are
 pub answered-refused : {A B : Type 0} (f : A → B) (P : TextFault → Type 0) (raw : Result (Option A) TextFault) → IfErr raw P → IfErr (answered f raw) P
 answered-refused f P (Ok x) h = tt
@@ -173,9 +179,10 @@ answered-fault f (Err e) h = let same : e ≡ ReadFault = cc in ap Err same
 module _ {I : Type 0} {g : Ghosts I} where
   -- a call of a reader that was not stopped
   pub Call-from_finds : {A : Type 0} (next : ℕ → List ℕ → Result (Option A) TextFault) (size : List ℕ → ℕ) (a b : Tokens I g) (stopped : Option TextFault) (result : Result (Option A) TextFault)
-      → ((fault : TextFault) → a.stopped ≡ Some fault → ⊥) → stopped ≡ result_err result → Finds next size a b result → IsCaused a b result
+      → ((fault : TextFault) → a.stopped ≡ Some fault → ⊥) → stopped ≡ result_err result → Finds next size a b result → IsCaused a b result → IfOk result (λ found. IfNone found (b.to - b.from ≡ 0))
       → Call next size (reading a) (record { left = left_of b; place = b.place; ahead = b.to - b.from; stopped = stopped; faults = g.faults b.input.now }) result
-  Call-from_finds next size a b stopped result free stops finds cause = record {
+  Call-from_finds next size a b stopped result free stops finds cause ended = record {
+    ended = ended;
     stays = λ fault was. absurd (free fault was);
     stops = stops;
     later = cause.later;
@@ -189,7 +196,8 @@ module _ {I : Type 0} {g : Ghosts I} where
 
   -- the same for an answer that was made of what was found
   pub Call-from_made : {A B : Type 0} (f : A → B) (next : ℕ → List ℕ → Result (Option B) TextFault) (size : List ℕ → ℕ) (a b : Tokens I g) (stopped : Option TextFault) (raw : Result (Option A) TextFault)
-      → ((fault : TextFault) → a.stopped ≡ Some fault → ⊥) → stopped ≡ result_err raw → Finds next size a b (answered f raw) → IsCaused a b raw
+      → ((fault : TextFault) → a.stopped ≡ Some fault → ⊥) → stopped ≡ result_err raw → Finds next size a b (answered f raw) → IsCaused a b raw → IfOk raw (λ found. IfNone found (b.to - b.from ≡ 0))
       → Call next size (reading a) (record { left = left_of b; place = b.place; ahead = b.to - b.from; stopped = stopped; faults = g.faults b.input.now }) (answered f raw)
-  Call-from_made f next size a b stopped raw free stops finds cause =
+  Call-from_made f next size a b stopped raw free stops finds cause ended =
       Call-from_finds next size a b stopped (answered f raw) free (stops ∙ answered-err f raw) finds (record { later = cause.later; failed = λ is. cause.failed (answered-fault f raw is) })
+      (answered-ended f (b.to - b.from ≡ 0) raw ended)

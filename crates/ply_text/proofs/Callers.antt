@@ -9,10 +9,10 @@ use Rattle.ply_text.specs.declared.tokens.Token.{Token}
 use Rattle.ply_text.specs.declared.tokens.Line.{Line}
 use Rattle.ply_text.specs.Pieces.{Piece}
 use Rattle.ply_text.specs.BodyTokens.{body_tokens}
-use Rattle.ply_text.specs.Calls.{token_size}
+use Rattle.ply_text.specs.NextPieces.{token_size}
 use Rattle.ply_text.specs.Reading.{Reading, StandsIn, held, reading}
 use Rattle.ply_text.proofs.Blocks.{told_parts, length-held}
-use Rattle.ply_text.specs.Steps.{Call, fault_place, LineCall, TokenCall, answered, line_piece, token_piece}
+use Rattle.ply_text.specs.Calls.{Call, fault_place, LineCall, TokenCall, answered, line_piece, token_piece}
 
 -- an option that is no Some
 pub None-from_default : {A : Type 0} (o : Option A) → ((x : A) → o ≡ Some x → ⊥) → o ≡ None

@@ -5,7 +5,7 @@ use Rattle.std.proofs.lemmas.Bool.Decides.{nat_tests}
 use Rattle.ply_text.specs.declared.run.Run.TheVariants.{Line}
 use Rattle.ply_text.specs.Pieces.{Piece, belongs}
 use Rattle.ply_text.specs.HeaderLines.{header_lines, with_first, begins_with_feed}
-use Rattle.ply_text.specs.Calls.{without_return}
+use Rattle.ply_text.specs.NextPieces.{without_return}
 
 -- what a first byte adds to a line before LF
 joined : (b : Bool) (byte c : ℕ) (t : List ℕ) → (c == 10) ≡ b → let front = take (cond (not b) (1 + prefix_len (belongs Line) t) 0) (c ∷ t) in

@@ -1,16 +1,16 @@
 -- The steps within a call, one after another.
-use Rattle.std.proofs.Common.{◌≡◌, ℕ, ◌+◌, ◌-◌, ◌<◌, ◌≤◌, List, [], ◌++◌, length, take, drop, Some, refl, sym, ap, ◌∙◌, arith, subst, ◌^◌, slice_range, inl, inr, Err, true, false, length-drop, length-append}
+use Rattle.std.proofs.Common.{◌≡◌, ℕ, ◌+◌, ◌-◌, ◌<◌, ◌≤◌, List, [], ◌++◌, length, take, drop, Some, Bool, MatchBool, refl, sym, ap, ◌∙◌, arith, subst, ◌^◌, slice_range, inl, inr, Err, true, false, length-drop, length-append}
 use Rattle.std.proofs.lemmas.List.{take-take, length-take, drop-drop}
 use Rattle.dev_traits.specs.declared.device.ByteSource.{Ghosts}
 use Rattle.ply_text.specs.declared.tokens.Tokens.{Tokens}
 use Rattle.ply_text.proofs.Blocks.{drop-held, length-held, told_parts, left_passed}
-use Rattle.ply_text.proofs.Runs.{run-append-le, run-drop, no_white}
+use Rattle.ply_text.proofs.Runs.{run-append-le, run-drop, run-front, no_white}
 use Rattle.std.specs.List.{prefix_len}
 use Rattle.std.specs.Io.KnownBytes.{prepend_known, IsAtEnd}
 use Rattle.std.proofs.lemmas.List.Sums.{prefix_len-le-length}
 use Rattle.ply_text.specs.declared.run.Run.TheVariants.{White, Token}
 use Rattle.ply_text.specs.declared.fault.TextFault.TheVariants.{TooLong}
-use Rattle.ply_text.specs.Calls.{run_size, room_at, white_size}
+use Rattle.ply_text.specs.NextPieces.{run_size, room_at, white_size}
 use Rattle.ply_text.proofs.RunSizes.{run_size-far, run_size-near}
 use Rattle.std.proofs.lemmas.Bool.Decides.{nat_tests}
 use Rattle.ply_text.specs.Pieces.{belongs}
@@ -56,6 +56,13 @@ module _ {I : Type 0} {g : Ghosts I} where
   Passes-read : {n : ℕ} {a b : Tokens I g} → Passes n a b → n ≤ length (held a) → b.place + (b.to - b.from) ≡ a.place + (a.to - a.from)
   Passes-read {n} {a} {b} p h =
       omega (arith, h, length-held a.block.now a.from a.to a.ordered a.inside, p.place, p.from, p.to)
+
+  -- a token that begins among the held bytes is not empty
+  pub Holds-token : {a b : Tokens I g} (found : Bool) (n : ℕ) → Holds a b → MatchBool found (0 < prefix_len (belongs Token) (held a)) (held a ≡ []) → found ≡ true
+      → n ≡ prefix_len (belongs Token) (held b) → 0 < n
+  Holds-token {a} {b} found n h begins is size =
+      let first : 0 < prefix_len (belongs Token) (held a) = subst (λ f. MatchBool f (0 < prefix_len (belongs Token) (held a)) (held a ≡ [])) is begins in
+      omega (arith, first, size, run-front (belongs Token) (length (held a)) (held a) (held b) h.front)
 
   pub Advances-holds : {a b : Tokens I g} → Holds a b → Advances a b
   Advances-holds {a} {b} h = record {

@@ -9,7 +9,7 @@ use Rattle.ply_text.specs.declared.fault.TextFault.{TextFault}
 use Rattle.ply_text.specs.declared.fault.TextFault.TheVariants.{TooLong, ReadFault}
 use Rattle.ply_text.specs.declared.run.Run.{Run}
 use Rattle.ply_text.specs.Pieces.{belongs}
-use Rattle.ply_text.specs.Calls.{run_size, short_run_size, room_at}
+use Rattle.ply_text.specs.NextPieces.{run_size, short_run_size, room_at}
 use Rattle.ply_text.specs.Holding.{checked_size}
 use Rattle.ply_text.proofs.Runs.{run-append, run-append-le}
 

@@ -4,7 +4,7 @@ use Rattle.ply_text.specs.declared.fault.TextFault.TheVariants.{TooLong}
 use Rattle.ply_text.specs.Pieces.{belongs}
 use Rattle.ply_text.specs.HeaderLines.{header_lines}
 use Rattle.ply_text.specs.BodyTokens.{body_tokens}
-use Rattle.ply_text.specs.Calls.{run_size, short_run_size, next_line_of, next_token_of, next_place_of, front_token_of, line_size, token_size}
+use Rattle.ply_text.specs.NextPieces.{run_size, short_run_size, next_line_of, next_token_of, next_place_of, front_token_of, line_size, token_size}
 
 -- "a", CR LF, LF, "b", CR: a line of one byte, a blank one, and a last one whose CR stays
 three_lines : header_lines 5 (97 ∷ 13 ∷ 10 ∷ 10 ∷ 98 ∷ 13 ∷ [])

@@ -1,68 +1,108 @@
--- What a call answers on a text whose first byte has the place `place`.
-use Rattle.std.specs.Prelude.{ℕ, ◌+◌, ◌-◌, ◌^◌, min, ◌&&◌, ◌==◌, if◌then◌else◌, nat_lt, nat_le, List, [], ◌∷◌, length, take, drop, Option, None, Some, Result, Ok, Err}
-use Rattle.std.specs.List.{prefix_len}
+-- What a call does to a reader.
+use Rattle.std.specs.Prelude.{◌≡◌, ◌≢◌, ℕ, ◌+◌, ◌-◌, ◌^◌, ◌<◌, ◌≤◌, List, [], ◌∷◌, length, drop, Option, None, Some, IfSome, IfNone, MatchOption, Result, Err, IfOk, IfErr, ⊤}
+use Rattle.std.specs.Result.{result_err, result_map_both}
+use Rattle.std.specs.Option.{option_map}
+use Rattle.dev_traits.specs.declared.device.ByteSource.{Ghosts}
+use Rattle.dev_traits.specs.Faults.{Rose}
 use Rattle.ply_text.specs.declared.fault.TextFault.{TextFault}
-use Rattle.ply_text.specs.declared.fault.TextFault.TheVariants.{LineTooLong, TokenTooLong, TooLong}
-use Rattle.ply_text.specs.declared.run.Run.{Run}
-use Rattle.ply_text.specs.declared.run.Run.TheVariants.{Line, Token, White}
-use Rattle.ply_text.specs.Pieces.{Piece, belongs}
+use Rattle.ply_text.specs.declared.fault.TextFault.TheVariants.{LineTooLong, TokenTooLong, TooLong, ReadFault}
+use Rattle.ply_text.specs.declared.tokens.Tokens.{Tokens}
+use Rattle.ply_text.specs.declared.tokens.Line.{Line as LineStruct}
+use Rattle.ply_text.specs.declared.tokens.Token.{Token as TokenStruct}
+use Rattle.ply_text.specs.Pieces.{Piece, IsLine, IsToken}
+use Rattle.ply_text.specs.HeaderLines.{header_lines}
+use Rattle.ply_text.specs.BodyTokens.{body_tokens}
+use Rattle.ply_text.specs.NextPieces.{next_line_of, next_place_of, next_token_of, line_size, token_size, white_size}
+use Rattle.ply_text.specs.Reading.{Reading}
 
--- how many bytes from a place on may be passed
-abbrev pub room_at : ℕ → ℕ
-room_at place = 2 ^ 62 - place
+-- the answer of a call, with slices as lists
+abbrev pub answered : {A B : Type 0} → (A → B) → Result (Option A) TextFault → Result (Option B) TextFault
+answered piece result = result_map_both (λ found. option_map piece found) (λ fault. fault) result
 
--- the size of the run at the front of a text; `TooLong` where it fills the room and bytes stand behind
-unfoldable pub run_size : Run → ℕ → List ℕ → Result ℕ TextFault
-run_size run room text =
-    let size = prefix_len (belongs run) text in
-    if nat_le room size && nat_lt room (length text) then Err TooLong else Ok size
+abbrev pub line_piece : LineStruct → Piece
+line_piece line = record { place = line.place; bytes = line.bytes.now }
 
--- the same, and the fault where more bytes than the limit belong to the run within the room
-unfoldable pub short_run_size : Run → ℕ → TextFault → ℕ → List ℕ → Result ℕ TextFault
-short_run_size run limit fault room text =
-    if nat_lt limit (min (prefix_len (belongs run) text) room) then Err fault else run_size run room text
+abbrev pub token_piece : TokenStruct → Piece
+token_piece token = record { place = token.place; bytes = token.bytes.now }
 
--- goes on with the size, or stays at the fault
-abbrev pub sized : {A : Type 0} → Result ℕ TextFault → (ℕ → Result A TextFault) → Result A TextFault
-sized (Ok size) next = next size
-sized (Err fault) next = Err fault
+-- the reader holds the same source and the same block
+pub record SameLent {I : Type 0} {g : Ghosts I} (old new : Tokens I g) : Type 0 where
+  pub input : new.input.ghost_name ≡ old.input.ghost_name
+  pub block : new.block.ghost_name ≡ old.block.ghost_name
 
--- a line's bytes without a CR at their end
-abbrev pub without_return : List ℕ → List ℕ
-without_return [] = []
-without_return (byte ∷ behind) = if (byte == 13) && (length behind == 0) then [] else byte ∷ without_return behind
+-- the place that a fault is about: all bytes before it were read
+abbrev pub fault_place : TextFault → ℕ
+fault_place (LineTooLong place) = place
+fault_place (TokenTooLong place) = place
+fault_place TooLong = 2 ^ 62
+fault_place ReadFault = 0
 
--- the first bytes of a text as a line, without the CR before its LF
-abbrev pub line_of : List ℕ → ℕ → List ℕ
-line_of text size = if nat_lt size (length text) then without_return (take size text) else take size text
+-- the faults of each call, and the places that they name
+abbrev pub IsLineFault : ℕ → TextFault → Type 0
+IsLineFault here (LineTooLong place) = place ≡ here
+IsLineFault here (TokenTooLong place) = ⊥
+IsLineFault here TooLong = ⊤
+IsLineFault here ReadFault = ⊤
 
--- the next line
-unfoldable pub next_line_of : ℕ → List ℕ → Result (Option Piece) TextFault
-next_line_of place text = sized (short_run_size Line 1024 (LineTooLong place) (room_at place) text) (λ size.
-    Ok (if length text == 0 then None else Some (record { place = place; bytes = line_of text size })))
+abbrev pub IsTokenFault : ℕ → TextFault → Type 0
+IsTokenFault here (LineTooLong place) = ⊥
+IsTokenFault here (TokenTooLong place) = place ≡ here
+IsTokenFault here TooLong = ⊤
+IsTokenFault here ReadFault = ⊤
 
--- how many bytes the next line takes, with its LF
-abbrev pub line_size : List ℕ → ℕ
-line_size text = min (prefix_len (belongs Line) text + 1) (length text)
+abbrev pub IsPlaceFault : TextFault → Type 0
+IsPlaceFault (LineTooLong place) = ⊥
+IsPlaceFault (TokenTooLong place) = ⊥
+IsPlaceFault TooLong = ⊤
+IsPlaceFault ReadFault = ⊤
 
--- how many bytes of white space stand at the front of a text
-abbrev pub white_size : List ℕ → ℕ
-white_size text = prefix_len (belongs White) text
+-- what each call does: a stopped reader answers its fault again and stays as it is; a fault stops the reader;
+-- a read fails only where the source counted a fault; no byte comes back, none that was read is left where nothing is given, and at a fault all bytes before its place were read;
+-- of told bytes a front was passed, at Ok of the size that is given, and the answer is the one defined where the source did not fail
+pub record Call {A : Type 0} (next : ℕ → List ℕ → Result (Option A) TextFault) (size : List ℕ → ℕ)
+    (old new : Reading) (result : Result (Option A) TextFault) : Type 0 where
+  pub stays : (fault : TextFault) → old.stopped ≡ Some fault → (result ≡ Err fault) × (new ≡ old)
+  pub stops : new.stopped ≡ result_err result
+  pub later : old.faults ≤ new.faults
+  pub failed : old.stopped ≡ None → result ≡ Err ReadFault → Rose old.faults new.faults
+  pub onward : (old.place ≤ new.place) × (old.place + old.ahead ≤ new.place + new.ahead)
+  pub ended : IfOk result (λ found. IfNone found (new.ahead ≡ 0))
+  pub reached : old.stopped ≡ None → IfErr result (λ fault. fault_place fault ≤ new.place + new.ahead)
+  pub front : (text : List ℕ) → old.left ≡ Some text
+      → (new.left ≡ Some (drop (new.place - old.place) text)) × (new.place - old.place ≤ length text)
+  pub answer : (text : List ℕ) → old.left ≡ Some text → old.stopped ≡ None → result ≢ Err ReadFault
+      → result ≡ next old.place text
+  pub passed : (text : List ℕ) → old.left ≡ Some text → IfOk result (λ _.
+      (new.left ≡ Some (drop (size text) text)) × (new.place ≡ old.place + size text))
 
--- the place of the next byte other than white space
-unfoldable pub next_place_of : ℕ → List ℕ → Result (Option ℕ) TextFault
-next_place_of place text = sized (run_size White (room_at place) text) (λ size.
-    Ok (if size == length text then None else Some (place + size)))
+-- a line, of any source, begins at the reader's place, which comes to stand behind it;
+-- of told bytes it is the first line of those left, and none is given only where no byte is left
+pub record LineCall (old new : Reading) (result : Result (Option Piece) TextFault) : Type 0 where
+  pub call : Call next_line_of line_size old new result
+  pub refused : old.stopped ≡ None → IfErr result (λ fault. (new.place ≡ old.place) × IsLineFault old.place fault)
+  pub bounds : IfOk result (λ found. IfSome found (λ line.
+      (line.place ≡ old.place) × (old.place < new.place) × (line.place + length line.bytes ≤ new.place) × IsLine line))
+  pub whole : (text : List ℕ) → old.left ≡ Some text → IfOk result (λ found.
+      MatchOption found (text ≡ []) (λ line. header_lines old.place text ≡ line ∷ header_lines new.place (drop (line_size text) text)))
 
--- the token at the front of a text
-unfoldable pub front_token_of : ℕ → List ℕ → Result (Option Piece) TextFault
-front_token_of place text = sized (short_run_size Token 255 (TokenTooLong place) (room_at place) text) (λ size.
-    Ok (if size == 0 then None else Some (record { place = place; bytes = take size text })))
+-- the reader's place comes to stand behind a token, of any source, and at a fault only white space was passed; of told bytes it is the first token of those left,
+-- and none is given only where no token is left, and then no byte is left
+pub record TokenCall (old new : Reading) (result : Result (Option Piece) TextFault) : Type 0 where
+  pub call : Call next_token_of token_size old new result
+  pub refused : old.stopped ≡ None → IfErr result (IsTokenFault new.place)
+  pub only_white : (text : List ℕ) → old.left ≡ Some text → IfErr result (λ _. new.place - old.place ≤ white_size text)
+  pub bounds : IfOk result (λ found. IfSome found (λ token.
+      (old.place ≤ token.place) × (token.place + length token.bytes ≡ new.place) × IsToken token))
+  pub whole : (text : List ℕ) → old.left ≡ Some text → IfOk result (λ found.
+      MatchOption found ((body_tokens old.place text ≡ []) × (new.left ≡ Some [])) (λ token.
+      body_tokens old.place text ≡ token ∷ body_tokens new.place (drop (token_size text) text)))
 
--- the next token
-unfoldable pub next_token_of : ℕ → List ℕ → Result (Option Piece) TextFault
-next_token_of place text = sized (run_size White (room_at place) text) (λ size. front_token_of (place + size) (drop size text))
-
--- how many bytes the next token takes, with the white space before it
-abbrev pub token_size : List ℕ → ℕ
-token_size text = white_size text + prefix_len (belongs Token) (drop (white_size text) text)
+-- a place is the reader's own behind the white space, which alone is passed; of told bytes the tokens left stay as they were,
+-- and none is given only where no byte is left behind the white space
+pub record PlaceCall (old new : Reading) (result : Result (Option ℕ) TextFault) : Type 0 where
+  pub call : Call next_place_of white_size old new result
+  pub refused : old.stopped ≡ None → IfErr result IsPlaceFault
+  pub only_white : (text : List ℕ) → old.left ≡ Some text → IfErr result (λ _. new.place - old.place ≤ white_size text)
+  pub place : IfOk result (λ found. IfSome found (λ place. place ≡ new.place))
+  pub whole : (text : List ℕ) → old.left ≡ Some text → IfOk result (λ found.
+      (body_tokens old.place text ≡ body_tokens new.place (drop (white_size text) text)) × MatchOption found (new.left ≡ Some []) (λ _. ⊤))

@@ -11,9 +11,9 @@ use Rattle.ply_text.specs.declared.run.Run.TheVariants.{White}
 use Rattle.ply_text.specs.declared.tokens.Tokens.{Tokens}
 use Rattle.ply_text.specs.declared.tokens.Span.{Span}
 use Rattle.ply_text.specs.Pieces.{Piece, belongs}
-use Rattle.ply_text.specs.Calls.{run_size, room_at, white_size}
+use Rattle.ply_text.specs.NextPieces.{run_size, room_at, white_size}
 use Rattle.ply_text.specs.Reading.{held, left_of}
-use Rattle.ply_text.specs.Steps.{fault_place}
+use Rattle.ply_text.specs.Calls.{fault_place}
 
 -- the bytes of a block that a span names
 abbrev pub piece_in : List ℕ → Span → Piece

@@ -2,10 +2,10 @@ pub mod BodyTokens
 pub mod Calls
 pub mod HeaderLines
 pub mod Holding
+pub mod NextPieces
 pub mod NumeralParts
 pub mod Numerals
 pub mod Pieces
 pub mod Reading
 pub mod Scaled
-pub mod Steps
 pub mod Wholes

@@ -4,7 +4,7 @@ ghost use Rattle.std.specs.Prelude.{◌≡◌, ◌≤◌, ◌<◌, ℕ, List, �
 ghost use Rattle.dev_traits.specs.Faults.{Rose};
 ghost use Rattle.ply_text.specs.Pieces.{Piece};
 ghost use Rattle.ply_text.specs.BodyTokens.{body_tokens};
-ghost use Rattle.ply_text.specs.Steps.{fault_place};
+ghost use Rattle.ply_text.specs.Calls.{fault_place};
 
 use crate::{TextFault, Tokens};
 use dev_traits::{ByteSource, MemSource};

@@ -59,7 +59,7 @@ impl<'a, I: ByteSource> Tokens<'a, I> {
     ghost use Rattle.ply_text.specs.contracts.tokens.Tokens.{the_row};
     ghost use Rattle.ply_text.specs.Reading.{reading};
     ghost use Rattle.ply_text.specs.Holding.{LiesIn, piece_in};
-    ghost use Rattle.ply_text.specs.Steps.{SameLent, answered, line_piece, token_piece, LineCall, TokenCall, PlaceCall};
+    ghost use Rattle.ply_text.specs.Calls.{SameLent, answered, line_piece, token_piece, LineCall, TokenCall, PlaceCall};
 
     /// A reader at place 0. A larger block takes fewer reads.
     pub fn new(input: &'a mut I, block: &'a mut [u8]) -> Tokens<'a, I>

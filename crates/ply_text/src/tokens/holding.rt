@@ -1,10 +1,10 @@
 //! The steps within a call: bytes are held in the block until a run's end is among them.
 
-ghost use Rattle.std.specs.Prelude.{◌≡◌, ◌≢◌, ◌+◌, ◌-◌, ◌<◌, ◌≤◌, ◌^◌, ℕ, List, [], length, take, drop, slice_range, Option, Some, None, Result, Ok, Err, MatchResult, MatchBool, IfOk, IfErr, IfSome, OnErr, not, ◌&&◌, nat_le, nat_lt, true};
+ghost use Rattle.std.specs.Prelude.{◌≡◌, ◌≢◌, ◌+◌, ◌-◌, ◌<◌, ◌≤◌, ◌^◌, ℕ, List, [], length, take, drop, slice_range, Option, Some, None, Result, Ok, Err, MatchResult, MatchBool, IfOk, IfErr, IfSome, IfNone, OnErr, not, ◌&&◌, nat_le, nat_lt, true, false};
 ghost use Rattle.std.specs.Io.KnownBytes.{IsAtEnd};
 ghost use Rattle.dev_traits.specs.Contents.{TakesFront};
 ghost use Rattle.dev_traits.specs.Faults.{HasCause};
-ghost use Rattle.ply_text.specs.Calls.{without_return};
+ghost use Rattle.ply_text.specs.NextPieces.{without_return};
 
 use super::{Span, Tokens};
 use crate::fault::TextFault;
@@ -54,8 +54,8 @@ impl<I: ByteSource> Tokens<'_, I> {
     ghost use Rattle.ply_text.specs.Pieces.{belongs, IsLine, IsToken};
     ghost use Rattle.ply_text.specs.Reading.{held, left_of};
     ghost use Rattle.ply_text.specs.Holding.{IsCaused, Keeps, Holds, ReadsOn, HoldsRun, Passes, PassesWhite, PassedWhite, Finds, LiesIn, IsOneOf, checked_size, piece_in};
-    ghost use Rattle.ply_text.specs.Calls.{run_size, short_run_size, room_at, line_of, line_size, token_size, white_size, next_line_of, next_place_of, next_token_of};
-    ghost use Rattle.ply_text.specs.Steps.{answered, fault_place, IsLineFault, IsTokenFault, IsPlaceFault};
+    ghost use Rattle.ply_text.specs.NextPieces.{run_size, short_run_size, room_at, line_of, line_size, token_size, white_size, next_line_of, next_place_of, next_token_of};
+    ghost use Rattle.ply_text.specs.Calls.{answered, fault_place, IsLineFault, IsTokenFault, IsPlaceFault};
 
     /// Moves the held bytes to the block's front, so that the next read has the most room.
     fn to_front(&mut self)
@@ -128,7 +128,7 @@ impl<I: ByteSource> Tokens<'_, I> {
             && nat_lt (room_at self.now.place) (length (held self.now))) }
     {
         let room = PLACES - self.place;
-        !(room <= size as u64 && room < (self.to - self.from) as u64)
+        (size as u64) < room || (self.to - self.from) as u64 <= room
     }
 
     /// The size of the run at the front of the text, which is then held.
@@ -198,6 +198,7 @@ impl<I: ByteSource> Tokens<'_, I> {
         ensures passes { PassesWhite self.old self.new }
         ensures reached { IfErr result (λ fault.
             fault_place fault ≤ self.new.place + (self.new.to - self.new.from)) }
+        ensures ended { IfOk result (λ found. found ≡ false → self.new.to - self.new.from ≡ 0) }
         ensures kind { IfErr result IsPlaceFault }
         ensures found { IfOk result (λ found.
             MatchBool found (0 < prefix_len (belongs Run.Token) (held self.new)) (held self.new ≡ [])) }
@@ -219,6 +220,9 @@ impl<I: ByteSource> Tokens<'_, I> {
     /// `next_place` of a reader that is not stopped.
     pub(super) fn find_place(&mut self) -> Result<Option<u64>, TextFault>
         ensures finds { Finds next_place_of white_size self.old self.new result }
+        ensures only_white { (text : List ℕ) → left_of self.old ≡ Some text
+            → IfErr result (λ _. self.new.place - self.old.place ≤ white_size text) }
+        ensures ended { IfOk result (λ found. IfNone found (self.new.to - self.new.from ≡ 0)) }
         ensures refused { IfErr result IsPlaceFault }
         ensures place { IfOk result (λ found. IfSome found (λ place. place ≡ self.new.place)) }
         ensures cause { IsCaused self.old self.new result }
@@ -231,6 +235,9 @@ impl<I: ByteSource> Tokens<'_, I> {
     pub(super) fn find_token(&mut self) -> Result<Option<Span>, TextFault>
         ensures finds { Finds next_token_of token_size self.old self.new
             (answered (piece_in self.new.block.now) result) }
+        ensures only_white { (text : List ℕ) → left_of self.old ≡ Some text
+            → IfErr result (λ _. self.new.place - self.old.place ≤ white_size text) }
+        ensures ended { IfOk result (λ found. IfNone found (self.new.to - self.new.from ≡ 0)) }
         ensures refused { IfErr result (IsTokenFault self.new.place) }
         ensures inside { IfOk result (λ found. IfSome found (LiesIn self.new.block.now)) }
         ensures bounds { IfOk (answered (piece_in self.new.block.now) result) (λ found. IfSome found
@@ -269,6 +276,7 @@ impl<I: ByteSource> Tokens<'_, I> {
     pub(super) fn find_line(&mut self) -> Result<Option<Span>, TextFault>
         ensures finds { Finds next_line_of line_size self.old self.new
             (answered (piece_in self.new.block.now) result) }
+        ensures ended { IfOk result (λ found. IfNone found (self.new.to - self.new.from ≡ 0)) }
         ensures refused { IfErr result (λ fault.
             (self.new.place ≡ self.old.place) × IsLineFault self.old.place fault) }
         ensures inside { IfOk result (λ found. IfSome found (LiesIn self.new.block.now)) }

@@ -1,9 +1,9 @@
 use Rattle.std.proofs.Common.{◌≡◌, [], ◌∷◌, length, None, Some, refl, sym, ap, ◌∙◌, arith, rules}
 use Rattle.ply_text.specs.BodyTokens.{body_tokens}
 use Rattle.ply_text.specs.Reading.{StandsIn, reading}
-use Rattle.ply_text.specs.Steps.{token_piece}
+use Rattle.ply_text.specs.Calls.{token_piece}
 use Rattle.ply_text.proofs.Callers.{stands_after, starts, reached_by, read_at_fault, None-from_default, TokenCall-given, no_token, last_token, two_tokens}
-use Rattle.ply_text.specs.Calls.{next_token_of, token_size}
+use Rattle.ply_text.specs.NextPieces.{next_token_of, token_size}
 use Rattle.ply_text.proofs.RunSizes.{err_is}
 use Rattle.ply_text.proofs.token_callers.first_two.Goals as goal
 

@@ -7,7 +7,7 @@ use Rattle.ply_text.specs.declared.fault.TextFault.TheVariants.{ReadFault}
 use Rattle.ply_text.specs.Pieces.{IsLine, belongs}
 use Rattle.ply_text.specs.Reading.{held}
 use Rattle.ply_text.specs.Holding.{piece_in, Passes}
-use Rattle.ply_text.specs.Steps.{answered}
+use Rattle.ply_text.specs.Calls.{answered}
 use Rattle.ply_text.proofs.Runs.{run-passes}
 use Rattle.ply_text.proofs.Blocks.{take-held, length-held}
 use Rattle.ply_text.proofs.RunSizes.{err_is}

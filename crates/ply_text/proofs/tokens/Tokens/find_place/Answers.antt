@@ -1,5 +1,5 @@
 use Rattle.std.proofs.Common.{sym, subst, Option, Ok, ℕ}
-use Rattle.ply_text.specs.Calls.{next_place_of, white_size}
+use Rattle.ply_text.specs.NextPieces.{next_place_of, white_size}
 use Rattle.ply_text.specs.Holding.{Finds}
 use Rattle.ply_text.proofs.RunSizes.{err_is}
 use Rattle.ply_text.proofs.Readers.{Advances-white}

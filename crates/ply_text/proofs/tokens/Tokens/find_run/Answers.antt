@@ -2,7 +2,7 @@ use Rattle.std.proofs.Common.{◌≤◌, ◌<◌, ◌⊎◌, ℕ, length, arith,
 use Rattle.std.specs.Io.KnownBytes.{IsAtEnd}
 use Rattle.std.proofs.lemmas.List.Sums.{prefix_len-le-length}
 use Rattle.ply_text.specs.Pieces.{belongs}
-use Rattle.ply_text.specs.Calls.{room_at}
+use Rattle.ply_text.specs.NextPieces.{room_at}
 use Rattle.ply_text.specs.Reading.{held}
 use Rattle.ply_text.proofs.RunSizes.{run_answer, checked_size-ok, IfOk-from}
 use Rattle.ply_text.proofs.tokens.Tokens.find_run.Goals as goal

@@ -1,4 +1,4 @@
-use Rattle.std.proofs.Common.{◌≡◌, ◌<◌, ◌≤◌, ◌+◌, ◌-◌, arith, ap, ◌∙◌, sym, subst, MatchBool, length, take, slice_range, List, [], ℕ}
+use Rattle.std.proofs.Common.{◌≡◌, ◌<◌, ◌≤◌, ◌+◌, ◌-◌, arith, ap, ◌∙◌, sym, subst, length, take, slice_range, List, ℕ}
 use Rattle.std.specs.List.{prefix_len}
 use Rattle.std.proofs.lemmas.List.{length-take-le}
 use Rattle.std.proofs.lemmas.List.Sums.{prefix_len-le-length}
@@ -6,13 +6,13 @@ use Rattle.ply_text.specs.declared.run.Run.TheVariants.{Token}
 use Rattle.ply_text.specs.declared.fault.TextFault.TheVariants.{ReadFault}
 use Rattle.ply_text.specs.Pieces.{IsToken, belongs}
 use Rattle.ply_text.specs.Reading.{held}
-use Rattle.ply_text.specs.Calls.{next_token_of, token_size}
+use Rattle.ply_text.specs.NextPieces.{next_token_of, token_size}
 use Rattle.ply_text.specs.Holding.{PassedWhite, piece_in}
-use Rattle.ply_text.specs.Steps.{answered}
-use Rattle.ply_text.proofs.Runs.{run-front, run-passes}
+use Rattle.ply_text.specs.Calls.{answered}
+use Rattle.ply_text.proofs.Runs.{run-passes}
 use Rattle.ply_text.proofs.Blocks.{take-held, length-held}
 use Rattle.ply_text.proofs.RunSizes.{err_is}
-use Rattle.ply_text.proofs.Readers.{Advances-white}
+use Rattle.ply_text.proofs.Readers.{Advances-white, Holds-token}
 use Rattle.ply_text.proofs.Answers.{Finds-fault, Finds-no_token, Finds-token_fault, Finds-token, next_token_of-fault}
 use Rattle.ply_text.proofs.tokens.Tokens.find_token.Goals as goal
 
@@ -54,11 +54,8 @@ returns-clause-finds g c =
     let t = c.find_run.new.self in
     let n = c.in_ok-size.size in
     let run : n ≡ prefix_len (belongs Token) (held t) = c.in_ok-size.ensures.run.0.size in
-    let first : 0 < prefix_len (belongs Token) (held b) =
-    subst (λ found. MatchBool found (0 < prefix_len (belongs Token) (held b)) (held b ≡ [])) c.if-not-branch.false c.in_ok-pass_white.ensures.found in
-    let longer : prefix_len (belongs Token) (held b) ≤ prefix_len (belongs Token) (held t) =
-    run-front (belongs Token) (length (held b)) (held b) (held t) c.find_run.ensures.holds.front in
-    Finds-token n a b t c.pass.new.self (Advances-white c.pass_white.ensures.passes) c.find_run.ensures.holds c.pass.ensures (omega (arith, run, first, longer))
+    let some : 0 < n = Holds-token _ n c.find_run.ensures.holds c.in_ok-pass_white.ensures.found c.if-not-branch.false run in
+    Finds-token n a b t c.pass.new.self (Advances-white c.pass_white.ensures.passes) c.find_run.ensures.holds c.pass.ensures some
     (omega (arith, run, prefix_len-le-length (belongs Token) (held t)))
     (λ text told. subst (PassedWhite text a b) c.if-not-branch.false (c.in_ok-pass_white.ensures.answer text told))
     (λ text told. c.in_ok-size.ensures.answer text told (λ e. cc))
@@ -70,10 +67,7 @@ returns-clause-bounds g c =
     let d = c.pass.new.self in
     let n = c.in_ok-size.size in
     let run : n ≡ prefix_len (belongs Token) (held t) = c.in_ok-size.ensures.run.0.size in
-    let first : 0 < prefix_len (belongs Token) (held b) =
-    subst (λ found. MatchBool found (0 < prefix_len (belongs Token) (held b)) (held b ≡ [])) c.if-not-branch.false c.in_ok-pass_white.ensures.found in
-    let longer : prefix_len (belongs Token) (held b) ≤ prefix_len (belongs Token) (held t) =
-    run-front (belongs Token) (length (held b)) (held b) (held t) c.find_run.ensures.holds.front in
+    let some : 0 < n = Holds-token _ n c.find_run.ensures.holds c.in_ok-pass_white.ensures.found c.if-not-branch.false run in
     let within : n ≤ length (held t) = omega (arith, run, prefix_len-le-length (belongs Token) (held t)) in
     let fits : n ≤ t.to - t.from = omega (arith, within, length-held t.block.now t.from t.to t.ordered t.inside) in
     let bytes : take n (held t) ≡ slice_range d.block.now t.from (t.from + n) =
@@ -83,4 +77,4 @@ returns-clause-bounds g c =
     let later : c.args.self.now.place ≤ b.place = c.pass_white.ensures.passes.later in
     let place : d.place ≡ b.place + n = omega (arith, c.pass.ensures.place, c.find_run.ensures.holds.place) in
     let P : List ℕ → Type 0 = λ bytes. (c.args.self.now.place ≤ b.place) × (b.place + length bytes ≡ d.place) × IsToken (record { place = b.place; bytes = bytes }) in
-    subst P bytes (later, omega (arith, long, place), (omega (arith, long, run, first, longer), omega (arith, long, limit), run-passes (belongs Token) n (held t) (omega (arith, run))))
+    subst P bytes (later, omega (arith, long, place), (omega (arith, long, some), omega (arith, long, limit), run-passes (belongs Token) n (held t) (omega (arith, run))))

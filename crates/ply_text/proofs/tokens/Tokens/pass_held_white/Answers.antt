@@ -4,7 +4,7 @@ use Rattle.std.proofs.lemmas.List.Sums.{prefix_len-le-length}
 use Rattle.std.proofs.lemmas.Bool.Decides.{nat_tests}
 use Rattle.ply_text.specs.declared.run.Run.TheVariants.{White, Token}
 use Rattle.ply_text.specs.Pieces.{belongs}
-use Rattle.ply_text.specs.Calls.{room_at}
+use Rattle.ply_text.specs.NextPieces.{room_at}
 use Rattle.ply_text.specs.Reading.{held}
 use Rattle.ply_text.proofs.Blocks.{length-held}
 use Rattle.ply_text.proofs.Readers.{held-passes}

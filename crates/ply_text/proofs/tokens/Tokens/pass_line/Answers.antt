@@ -1,8 +1,8 @@
 use Rattle.std.proofs.Common.{◌≡◌}
-use Rattle.ply_text.specs.Calls.{next_line_of, line_size}
+use Rattle.ply_text.specs.NextPieces.{next_line_of, line_size}
 use Rattle.ply_text.specs.Reading.{left_of}
 use Rattle.ply_text.specs.Holding.{piece_in}
-use Rattle.ply_text.specs.Steps.{answered, IsLineFault}
+use Rattle.ply_text.specs.Calls.{answered, IsLineFault}
 use Rattle.ply_text.proofs.CallLaws.{Call-from_made, answered-refused, line_whole}
 use Rattle.ply_text.proofs.tokens.Tokens.pass_line.Goals as goal
 
@@ -13,7 +13,7 @@ returns-clause-call g c =
     let raw = c.find_line-found.result in
     let found = c.find_line-found.ensures in
     record {
-      call = Call-from_made (piece_in b.block.now) next_line_of line_size a b c.err-self.result raw c.in_default.not-Some c.err-self.ensures.value found.finds found.cause;
+      call = Call-from_made (piece_in b.block.now) next_line_of line_size a b c.err-self.result raw c.in_default.not-Some c.err-self.ensures.value found.finds found.cause found.ended;
       refused = λ _. answered-refused (piece_in b.block.now) (λ fault. (b.place ≡ a.place) × IsLineFault a.place fault) raw found.refused;
       bounds = found.bounds;
       whole = λ text told. line_whole a.place b.place text (left_of b) (answered (piece_in b.block.now) raw) (found.finds.answer text told) (found.finds.passed text told);

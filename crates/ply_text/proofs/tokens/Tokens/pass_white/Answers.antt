@@ -5,7 +5,7 @@ use Rattle.ply_text.specs.declared.run.Run.TheVariants.{White, Token}
 use Rattle.ply_text.specs.Pieces.{belongs}
 use Rattle.ply_text.specs.Reading.{held}
 use Rattle.ply_text.specs.Holding.{PassesWhite, PassedWhite}
-use Rattle.ply_text.specs.Calls.{run_size, room_at}
+use Rattle.ply_text.specs.NextPieces.{run_size, room_at}
 use Rattle.ply_text.specs.declared.fault.TextFault.{TextFault}
 use Rattle.ply_text.specs.declared.fault.TextFault.TheVariants.{TooLong, ReadFault}
 use Rattle.ply_text.proofs.RunSizes.{err_is}

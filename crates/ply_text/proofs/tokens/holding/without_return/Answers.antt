@@ -1,7 +1,7 @@
 use Rattle.std.proofs.Common.{◌≡◌, ◌==◌, [], ◌∷◌, ◌++◌, false, length, take, refl, sym, ap, ◌∙◌, arith}
 use Rattle.std.proofs.lemmas.List.{take_at, take_all}
 use Rattle.std.proofs.lemmas.Bool.Decides.{nat_tests}
-use Rattle.ply_text.specs.Calls.{without_return}
+use Rattle.ply_text.specs.NextPieces.{without_return}
 use Rattle.ply_text.proofs.Lines.{without_return-return, without_return-other}
 use Rattle.ply_text.proofs.tokens.holding.without_return.Goals as goal
 
