@@ -1,4 +1,5 @@
 pub mod Candidates
+pub mod Cells
 pub mod Filling
 pub mod Meeting
 pub mod Mesh
