@@ -9,3 +9,4 @@ pub mod Meetings
 pub mod SignedTerms
 pub mod Vectors
 pub mod WorkedCases
+pub mod WorkedOctrees

@@ -1,10 +1,15 @@
 pub mod Candidates
 pub mod Cells
+pub mod Checking
 pub mod Filling
+pub mod Formats
 pub mod Meeting
 pub mod Mesh
 pub mod NodeCube
 pub mod NodeFile
 pub mod NodeWords
+pub mod Octree
+pub mod OctreeFile
 pub mod PlainText
 pub mod Vectors
+pub mod Walking

@@ -1,9 +1,9 @@
--- The node file of a grid and a set of its cells. All numbers are little-endian.
-use Rattle.std.specs.Prelude.{◌≡◌, ℕ, List, ◌++◌, length, codes}
+-- The node file of format 1 of a grid and a set of its cells. All numbers are little-endian.
+use Rattle.std.specs.Prelude.{ℕ, List, ◌++◌, length, codes}
 use Rattle.std.specs.List.{flat_map}
 use Rattle.std.specs.Int.{w32, w64, cast_unsigned, to_le_bytes}
-use Rattle.svo_base.specs.GridShape.{GridShape, IsGrid}
-use Rattle.octree_specs.specs.NodeWords.{AreCells, words_of}
+use Rattle.svo_base.specs.GridShape.{GridShape}
+use Rattle.octree_specs.specs.NodeWords.{words_of}
 
 -- 48 bytes: the name of the format, the depth, a zero, the origin and the side of a cell
 unfoldable pub header_of : GridShape → List ℕ
@@ -20,11 +20,3 @@ unfoldable pub image_of : GridShape → List ℕ → List ℕ
 image_of grid cells =
     header_of grid ++ flat_map (to_le_bytes w64) (words_of cells grid.depth)
     ++ trailer_of (length (words_of cells grid.depth)) (length cells)
-
--- the bytes are the node file of some grid and some set of its cells
-pub record IsNodeFile (bytes : List ℕ) : Type 0 where
-  pub grid : GridShape
-  pub cells : List ℕ
-  pub limits : IsGrid grid
-  pub set : AreCells grid.depth cells
-  pub image : bytes ≡ image_of grid cells

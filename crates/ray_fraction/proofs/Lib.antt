@@ -4,4 +4,5 @@ pub mod LowestTerms
 pub mod Order
 pub mod TimeOrder
 pub mod Whereabouts
+mod WorkedHits
 mod WorkedTimes

@@ -1,5 +1,7 @@
+pub mod Crossings
 pub mod EndTimes
 pub mod Fractions
+pub mod Hits
 pub mod InCube
 pub mod Laws
 pub mod RayFrom
