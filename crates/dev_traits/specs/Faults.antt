@@ -1,5 +1,5 @@
 -- Counts of faults: a device is held to have failed in a call where its count rose in that call.
-use Rattle.std.specs.Prelude.{ℕ, ◌+◌, ◌-◌, ◌^◌, ◌<◌, ◌≤◌, min, Result, OnErr}
+use Rattle.std.specs.Prelude.{◌≡◌, ◌≢◌, ℕ, ◌+◌, ◌-◌, ◌^◌, ◌<◌, ◌≤◌, min, ◌⊎◌, Result, OnErr}
 
 -- one more, up to the last value of a counter of 64 bits
 abbrev pub counted : ℕ → ℕ
@@ -7,11 +7,11 @@ counted n = min (n + 1) (2 ^ 64 - 1)
 
 -- the count rose, or stands at that last value
 abbrev pub Rose : ℕ → ℕ → Type 0
-Rose before after = counted before ≤ after
+Rose before after = (before < after) ⊎ (after ≡ 2 ^ 64 - 1)
 
 -- the count did not rise, and does not stand at that last value
 abbrev pub DidNotRise : ℕ → ℕ → Type 0
-DidNotRise before after = after < counted before
+DidNotRise before after = (after ≤ before) × (after ≢ 2 ^ 64 - 1)
 
 -- the count did not fall, and the call was refused only where it rose
 pub record HasCause {T E : Type 0} (before after : ℕ) (result : Result T E) : Type 0 where

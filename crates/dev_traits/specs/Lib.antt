@@ -1,5 +1,12 @@
 pub mod Faults
+pub mod Streams
+pub mod Files
 pub mod Change
 pub mod Contents
+pub mod Failing
 pub mod SourceView
 pub mod SinkView
+pub mod ScratchRooms
+pub mod ScratchView
+pub mod StoreView
+pub mod StoredFiles

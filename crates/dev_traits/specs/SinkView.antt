@@ -1,7 +1,8 @@
 -- What contracts see of a sink in memory, and what a call does to it.
-use Rattle.std.specs.Prelude.{◌≡◌, ◌==◌, ◌+◌, ◌-◌, ◌≤◌, ℕ, min, List, ◌++◌, length, take, find, Option, None, Some, Result, IsOk, OnOk, OnErr, ◌↔◌, IsNone}
+use Rattle.std.specs.Prelude.{◌≡◌, ◌+◌, ◌-◌, ◌≤◌, ℕ, min, List, ◌++◌, length, take, Result, IsOk, OnOk, OnErr, ◌↔◌, IsNone}
 use Rattle.dev_traits.specs.Faults.{counted}
-use Rattle.dev_traits.specs.declared.memory_sink.PartFail.{PartFail}
+use Rattle.dev_traits.specs.Failing.{planned, taken_of}
+use Rattle.dev_traits.specs.declared.failing.PartFail.{PartFail}
 
 -- the bytes written, how many there is room for, the calls to refuse, and the calls and faults so far
 pub record SinkView : Type 0 where
@@ -10,15 +11,6 @@ pub record SinkView : Type 0 where
   pub fails : List PartFail
   pub calls : ℕ
   pub faults : ℕ
-
--- the first entry for a call
-abbrev pub planned : List PartFail → ℕ → Option PartFail
-planned fails call = find (λ fail. fail.call == call) fails
-
--- how many bytes a call takes, of those for which there is room
-abbrev pub taken_of : Option PartFail → ℕ → ℕ
-taken_of None fits = fits
-taken_of (Some fail) fits = min fail.taken fits
 
 -- a put is counted; it takes what its entry and the room allow, and is refused, and a fault counted, where it has an entry or its piece does not fit
 pub record PutsAsSet {T E : Type 0} (old new : SinkView) (piece : List ℕ) (result : Result T E) : Type 0 where

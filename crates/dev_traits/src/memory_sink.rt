@@ -3,20 +3,11 @@
 ghost use Rattle.std.specs.Prelude.{◌≡◌, Some, [], IfOk};
 ghost use Rattle.dev_traits.specs.Contents.{PutsPiece};
 ghost use Rattle.dev_traits.specs.Faults.{HasCause};
-ghost use Rattle.dev_traits.specs.SinkView.{planned, taken_of};
 
 use crate::device::{ByteSink, Failed};
+use crate::failing::{PartFail, planned, taken};
 use std::alloc::{AllocError, Global};
 use std::marker::Model;
-
-/// A call of `put` that is refused, counted from 1, and how many bytes of its piece are taken first.
-#[derive(Clone, Copy, Debug, PartialEq, Eq)]
-pub struct PartFail {
-    /// Which call, counted from 1. Of two entries for a call the first counts.
-    pub call: u64,
-    /// How many bytes of its piece are taken.
-    pub taken: u64,
-}
 
 /// A sink with a set room, which refuses the calls of a list.
 #[derive(Drop)]
@@ -102,22 +93,5 @@ impl ByteSink for MemSink {
         }
         self.faults = self.faults.saturating_add(1);
         Err(Failed)
-    }
-}
-
-/// The first entry for a call.
-fn planned(fails: &[PartFail], call: u64) -> Option<PartFail>
-    ensures { result ≡ planned fails.now call }
-{
-    fails.iter().copied().find(|fail| fail.call == call)
-}
-
-/// How many bytes a call takes, of those for which there is room.
-fn taken(planned: Option<PartFail>, fits: usize) -> usize
-    ensures { result ≡ taken_of planned fits }
-{
-    match planned {
-        Some(fail) => fail.taken.min(fits as u64) as usize,
-        None => fits,
     }
 }

@@ -1,4 +1,7 @@
-use crate::{ByteSink, ByteSource, Failed, MemSink, MemSource, PartFail};
+use crate::{
+    ByteSink, ByteSource, Failed, MemScratch, MemSink, MemSource, MemStore, NodeStore, PartFail,
+    Scratch,
+};
 
 #[test]
 fn a_source_gives_its_bytes_in_pieces(rt: HostRuntime) {
@@ -52,4 +55,65 @@ fn a_sink_refuses_the_calls_of_its_list(rt: HostRuntime) {
     );
     assert_eq!(rt; sink.calls(), 4, "calls");
     assert_eq!(rt; sink.fault_count(), 2, "faults");
+}
+
+#[test]
+fn a_scratch_starts_as_many_streams_as_it_has(rt: HostRuntime) {
+    let mut scratch = MemScratch::new(rt.alloc(), 2, 4, &[]).expect(&rt, "memory");
+    assert_eq!(rt; scratch.start("place", 2), Ok(()), "all of its streams");
+    assert_eq!(rt; scratch.length(1), Ok(0), "an empty stream");
+    let mut small = MemScratch::new(rt.alloc(), 2, 4, &[]).expect(&rt, "memory");
+    assert_eq!(rt; small.start("place", 3), Err(Failed), "one too many");
+    assert_eq!(rt; small.fault_count(), 1, "faults");
+}
+
+#[test]
+fn a_scratch_takes_what_fits_and_reads_it_back(rt: HostRuntime) {
+    let fails = [
+        PartFail { call: 3, taken: 0 },
+        PartFail { call: 4, taken: 1 },
+        PartFail { call: 8, taken: 0 },
+    ];
+    let mut scratch = MemScratch::new(rt.alloc(), 2, 5, &fails).expect(&rt, "memory");
+    assert_eq!(rt; scratch.start("", 2), Ok(()), "start");
+    for (stream, piece, want) in [
+        (1, b"ab", Ok(())),
+        (1, b"cd", Err(Failed)),
+        (1, b"ef", Err(Failed)),
+        (1, b"gh", Ok(())),
+        (1, b"ij", Err(Failed)),
+    ] {
+        assert_eq!(rt; scratch.append(stream, piece), want, "an append");
+    }
+    assert!(rt; scratch.stream(1) == b"abegh".as_slice(), "what was taken");
+    assert_eq!(rt; scratch.length(1), Ok(5), "its length");
+    let mut into = [0; 3];
+    assert_eq!(rt;
+        scratch.read_at(1, 2, &mut into),
+        Err(Failed),
+        "a refused read"
+    );
+    assert_eq!(rt; scratch.read_at(1, 2, &mut into), Ok(()), "up to the end");
+    assert!(rt; into.as_slice() == b"egh".as_slice(), "the last bytes");
+    assert_eq!(rt; scratch.length(0), Ok(0), "the other stream");
+    assert_eq!(rt; scratch.calls(), 10, "calls");
+    assert_eq!(rt; scratch.fault_count(), 4, "faults");
+}
+
+#[test]
+fn a_store_gives_its_files_by_name(rt: HostRuntime) {
+    let mut store = MemStore::new(rt.alloc(), &[2, 6]).expect(&rt, "memory");
+    store.add("a", b"first").expect(&rt, "memory");
+    store.add("b", b"second").expect(&rt, "memory");
+    for (name, want) in [("a", Ok(true)), ("a", Err(Failed)), ("c", Ok(false))] {
+        assert_eq!(rt; store.holds(name), want, "holds");
+    }
+    assert_eq!(rt; store.select("b"), Ok(()), "the second file");
+    assert_eq!(rt; store.length(), Ok(6), "its length");
+    let mut into = [0; 4];
+    assert_eq!(rt; store.read_at(2, &mut into), Err(Failed), "a refused read");
+    assert_eq!(rt; store.read_at(2, &mut into), Ok(()), "up to the end");
+    assert!(rt; into.as_slice() == b"cond".as_slice(), "the last bytes");
+    assert_eq!(rt; store.calls(), 7, "calls");
+    assert_eq!(rt; store.fault_count(), 2, "faults");
 }
