@@ -10,3 +10,4 @@ pub mod SignedTerms
 pub mod Vectors
 pub mod WorkedCases
 pub mod WorkedOctrees
+pub mod WorkedParts
