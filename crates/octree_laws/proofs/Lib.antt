@@ -1,0 +1,9 @@
+pub mod InTurn
+pub mod Alike
+pub mod FirstChildren
+pub mod MaskLeaves
+pub mod Masks
+pub mod Sizes
+pub mod Standing
+pub mod Trees
+pub mod Under
