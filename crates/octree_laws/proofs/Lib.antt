@@ -1,8 +1,11 @@
 pub mod InTurn
 pub mod Alike
 pub mod FirstChildren
+pub mod Maps
 pub mod MaskLeaves
+pub mod Marks
 pub mod Masks
+pub mod Rising
 pub mod Sizes
 pub mod Standing
 pub mod Trees
