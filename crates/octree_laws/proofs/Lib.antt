@@ -1,5 +1,7 @@
+pub mod Frames
 pub mod InTurn
 pub mod Alike
+pub mod Bytes
 pub mod FirstChildren
 pub mod Maps
 pub mod MaskLeaves
