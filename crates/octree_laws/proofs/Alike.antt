@@ -32,12 +32,12 @@ alike words xs ys (suc height) node number x y same code up =
     let masks : is_nonempty xs height (8 * node + child.place) ≡ is_nonempty ys height (8 * node + child.place) = x.0 child.place child.octant ∙ sym (y.0 child.place child.octant) in
     elim (cases_Bool (is_nonempty xs height (8 * node + child.place))) [
       | inl nonempty ↦
-        alike words xs ys height (8 * node + child.place) (child_number (slice_index words number) child.place)
-        (x.1 child.place child.octant nonempty).1 (y.1 child.place child.octant (sym masks ∙ nonempty)).1 masks code (sym child.is)
+          alike words xs ys height (8 * node + child.place) (child_number (slice_index words number) child.place)
+          (x.1 child.place child.octant nonempty).1 (y.1 child.place child.octant (sym masks ∙ nonempty)).1 masks code (sym child.is)
       | inr empty ↦
-        let no_x : is_nonempty xs 0 code ≡ false = empty_below xs height code (rw child.is at empty) in
-        let no_y : is_nonempty ys 0 code ≡ false = empty_below ys height code (rw child.is at (sym masks ∙ empty)) in
-        record { same = no_x ∙ sym no_y; word = λ nonempty. cc }
+          let no_x : is_nonempty xs 0 code ≡ false = empty_below xs height code (rw child.is at empty) in
+          let no_y : is_nonempty ys 0 code ≡ false = empty_below ys height code (rw child.is at (sym masks ∙ empty)) in
+          record { same = no_x ∙ sym no_y; word = λ nonempty. cc }
     ]
 
 -- the same of cells, by masks alone
@@ -53,17 +53,19 @@ alike_cells words xs ys (suc height) node number x y code up =
     x.0 child.place child.octant ∙ sym (y.0 child.place child.octant) in
     elim (cases_Bool (is_nonempty (face_leaves xs) (suc height) (8 * node + child.place))) [
       | inl nonempty ↦
-        alike_cells words xs ys height (8 * node + child.place) (child_number (slice_index words number) child.place)
-        (x.1 child.place child.octant nonempty).1 (y.1 child.place child.octant (sym masks ∙ nonempty)).1 code (sym child.is)
+          alike_cells words xs ys height (8 * node + child.place) (child_number (slice_index words number) child.place)
+          (x.1 child.place child.octant nonempty).1 (y.1 child.place child.octant (sym masks ∙ nonempty)).1 code (sym child.is)
       | inr empty ↦
-        empty_below (face_leaves xs) (suc height) code (rw child.is at empty) ∙ sym (empty_below (face_leaves ys) (suc height) code (rw child.is at (sym masks ∙ empty)))
+          empty_below (face_leaves xs) (suc height) code (rw child.is at empty) ∙ sym (empty_below (face_leaves ys) (suc height) code (rw child.is at (sym masks ∙ empty)))
     ]
 
 -- masks lead on where a whole tree does, with cells as leaves
 pub masks_from_tree : (words : List ℕ) (cells : List Cell) (height node number : ℕ) → HasTree words (face_leaves cells) (suc height) node number → HasMasks words cells (suc height) node number
 masks_from_tree words cells zero node number tree = tree.0
-masks_from_tree words cells (suc height) node number tree =
-    (tree.0, λ place octant nonempty.
+masks_from_tree words cells (suc height) node number tree = (
+  tree.0,
+  λ place octant nonempty.
       let child : (child_number (slice_index words number) place < number) × HasTree words (face_leaves cells) (suc height) (8 * node + place) (child_number (slice_index words number) place) =
       tree.1 place octant nonempty in
-      (child.0, masks_from_tree words cells height (8 * node + place) (child_number (slice_index words number) place) child.1))
+      (child.0, masks_from_tree words cells height (8 * node + place) (child_number (slice_index words number) place) child.1),
+)

@@ -11,9 +11,10 @@ use Rattle.std.proofs.lemmas.Nat.{from_le_bytes-to_le_bytes_4, from_le_bytes-to_
 
 -- lists of equal parts
 pub same_parts : {A : Type 0} (a b c d : List A) → length a ≡ length c → a ++ b ≡ c ++ d → (a ≡ c) × (b ≡ d)
-same_parts a b c d long same =
-    (sym (take_at a b (length c) long) ∙ (ap (take (length c)) same ∙ take_at c d (length c) refl),
-    sym (drop_at a b (length c) long) ∙ (ap (drop (length c)) same ∙ drop_at c d (length c) refl))
+same_parts a b c d long same = (
+  sym (take_at a b (length c) long) ∙ (ap (take (length c)) same ∙ take_at c d (length c) refl),
+  sym (drop_at a b (length c) long) ∙ (ap (drop (length c)) same ∙ drop_at c d (length c) refl),
+)
 
 pub same_ends : {A : Type 0} (a b c d : List A) → length b ≡ length d → a ++ b ≡ c ++ d → (a ≡ c) × (b ≡ d)
 same_ends a b c d long same =

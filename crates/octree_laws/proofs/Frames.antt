@@ -68,10 +68,14 @@ pub length-header : (format : ℕ) (grid : GridShape) → IsGrid grid → length
 unfolding header_of magic origin_bytes
 length-header format grid limits =
     length-append (magic format ++ to_le_bytes w32 grid.depth ++ to_le_bytes w32 0 ++ origin_bytes grid.origin) (to_le_bytes w64 grid.cell)
-    ∙ rw (length-append (magic format ++ to_le_bytes w32 grid.depth ++ to_le_bytes w32 0) (origin_bytes grid.origin),
-        length-append (magic format ++ to_le_bytes w32 grid.depth) (to_le_bytes w32 0),
-        length-append (magic format) (to_le_bytes w32 grid.depth),
-        length-magic format, length-origin grid.origin, limits.axes) refl
+    ∙ rw (
+      length-append (magic format ++ to_le_bytes w32 grid.depth ++ to_le_bytes w32 0) (origin_bytes grid.origin),
+      length-append (magic format ++ to_le_bytes w32 grid.depth) (to_le_bytes w32 0),
+      length-append (magic format) (to_le_bytes w32 grid.depth),
+      length-magic format,
+      length-origin grid.origin,
+      limits.axes,
+    ) refl
 
 grid_is : (g h : GridShape) → g.depth ≡ h.depth → g.origin ≡ h.origin → g.cell ≡ h.cell → g ≡ h
 grid_is g h depth origin cell = λ i. record { depth = depth i; origin = origin i; cell = cell i }
@@ -90,17 +94,18 @@ same_headers f g grid other known_f known_g limits others same =
     let long : length (origin_bytes grid.origin) ≡ length (origin_bytes other.origin) =
     length-origin grid.origin ∙ (ap (λ n. 8 * n) (limits.axes ∙ sym others.axes) ∙ sym (length-origin other.origin)) in
     let cells : (magic f ++ depth_of grid ++ zeros ++ origin_bytes grid.origin ≡ magic g ++ depth_of other ++ zeros ++ origin_bytes other.origin)
-      × (to_le_bytes w64 grid.cell ≡ to_le_bytes w64 other.cell) =
+    × (to_le_bytes w64 grid.cell ≡ to_le_bytes w64 other.cell) =
     same_ends (magic f ++ depth_of grid ++ zeros ++ origin_bytes grid.origin) (to_le_bytes w64 grid.cell) (magic g ++ depth_of other ++ zeros ++ origin_bytes other.origin) (to_le_bytes w64 other.cell) refl same in
     let origins : (magic f ++ depth_of grid ++ zeros ≡ magic g ++ depth_of other ++ zeros) × (origin_bytes grid.origin ≡ origin_bytes other.origin) =
     same_ends (magic f ++ depth_of grid ++ zeros) (origin_bytes grid.origin) (magic g ++ depth_of other ++ zeros) (origin_bytes other.origin) long cells.0 in
     let nothing : (magic f ++ depth_of grid ≡ magic g ++ depth_of other) × (zeros ≡ zeros) = same_ends (magic f ++ depth_of grid) zeros (magic g ++ depth_of other) zeros refl origins.0 in
-    let depths : (magic f ≡ magic g) × (depth_of grid ≡ depth_of other) = same_ends (magic f) (depth_of grid) (magic g) (depth_of other) refl nothing.0 in
-    (same_format f g known_f known_g depths.0,
-    grid_is grid other
-      (same_four grid.depth other.depth (omega (arith, limits.shallow)) (omega (arith, others.shallow)) depths.1)
-      (same_origin grid.origin other.origin limits.near others.near (limits.axes ∙ sym others.axes) origins.1)
-      (same_eight grid.cell other.cell (cell-small grid limits) (cell-small other others) cells.1))
+    let depths : (magic f ≡ magic g) × (depth_of grid ≡ depth_of other) = same_ends (magic f) (depth_of grid) (magic g) (depth_of other) refl nothing.0 in (
+      same_format f g known_f known_g depths.0,
+      grid_is grid other
+          (same_four grid.depth other.depth (omega (arith, limits.shallow)) (omega (arith, others.shallow)) depths.1)
+          (same_origin grid.origin other.origin limits.near others.near (limits.axes ∙ sym others.axes) origins.1)
+          (same_eight grid.cell other.cell (cell-small grid limits) (cell-small other others) cells.1),
+    )
 
 -- ---- trailers
 
@@ -139,7 +144,7 @@ one_frame bytes f g grid other xs ys m n x y =
     let whole : frame_of f grid xs m ≡ frame_of g other ys n = sym x.frame ∙ y.frame in
     let ends : (header_of f grid ++ bytes_of xs ≡ header_of g other ++ bytes_of ys) × (trailer_of f (length xs) m ≡ trailer_of g (length ys) n) =
     same_ends (header_of f grid ++ bytes_of xs) (trailer_of f (length xs) m) (header_of g other ++ bytes_of ys) (trailer_of g (length ys) n)
-      (length-trailer f (length xs) m ∙ sym (length-trailer g (length ys) n)) whole in
+    (length-trailer f (length xs) m ∙ sym (length-trailer g (length ys) n)) whole in
     let parts : (header_of f grid ≡ header_of g other) × (bytes_of xs ≡ bytes_of ys) =
     same_parts (header_of f grid) (bytes_of xs) (header_of g other) (bytes_of ys) (length-header f grid x.limits ∙ sym (length-header g other y.limits)) ends.0 in
     let heads : (f ≡ g) × (grid ≡ other) = same_headers f g grid other x.known y.known x.limits y.limits parts.0 in

@@ -1,4 +1,5 @@
 pub mod Frames
+pub mod Images
 pub mod InTurn
 pub mod Alike
 pub mod Bytes

@@ -56,7 +56,7 @@ masks_one : (levels number : ℕ) (cells : List Cell) → AreFacedCells (suc lev
 masks_one levels number cells are long =
     subst (λ words. HasMasks words cells (suc levels) 0 number) (sym (words_one levels cells))
     (masks_from_leaves levels cells are.inside (words_of (mask_leaves levels cells) levels) levels 0 number
-      (words_have_tree (mask_leaves levels cells) levels number (sym (ap length (words_one levels cells)) ∙ long)))
+    (words_have_tree (mask_leaves levels cells) levels number (sym (ap length (words_one levels cells)) ∙ long)))
 
 -- in format 2 the words lead to each cell's own
 pub words_have_faces : (depth number : ℕ) (cells : List Cell) → length (file_words 2 depth cells) ≡ number + 1 → HasTree (file_words 2 depth cells) (face_leaves cells) depth 0 number
@@ -72,11 +72,11 @@ pub words_have_masks : (format levels number : ℕ) (cells : List Cell) → AreC
     → HasMasks (file_words format (suc levels) cells) cells (suc levels) 0 number
 words_have_masks format levels number cells are long = elim are.known [
   | inl one ↦
-    subst (λ f. HasMasks (file_words f (suc levels) cells) cells (suc levels) 0 number) (sym one)
-    (masks_one levels number cells are.map (subst (λ f. length (file_words f (suc levels) cells) ≡ number + 1) one long))
+      subst (λ f. HasMasks (file_words f (suc levels) cells) cells (suc levels) 0 number) (sym one)
+      (masks_one levels number cells are.map (subst (λ f. length (file_words f (suc levels) cells) ≡ number + 1) one long))
   | inr two ↦
-    subst (λ f. HasMasks (file_words f (suc levels) cells) cells (suc levels) 0 number) (sym two)
-    (masks_two levels number cells (subst (λ f. length (file_words f (suc levels) cells) ≡ number + 1) two long))
+      subst (λ f. HasMasks (file_words f (suc levels) cells) cells (suc levels) 0 number) (sym two)
+      (masks_two levels number cells (subst (λ f. length (file_words f (suc levels) cells) ≡ number + 1) two long))
 ]
 
 -- there is at least one word
@@ -134,8 +134,8 @@ same_cells low (x ∷ xs) (y ∷ ys) codes ascending words =
     let tail : xs ≡ ys =
     same_cells (x.code + 1) xs ys rest ascending.1
     (λ code has.
-      let above : x.code < code = omega (arith, above_low (x.code + 1) (codes_of xs) ascending.1 code has) in
-      sym (face_past x xs code above) ∙ (words code (in_rest x.code (codes_of xs) code has) ∙ face_past y ys code (omega (arith, above, first)))) in
+    let above : x.code < code = omega (arith, above_low (x.code + 1) (codes_of xs) ascending.1 code has) in
+    sym (face_past x xs code above) ∙ (words code (in_rest x.code (codes_of xs) code has) ∙ face_past y ys code (omega (arith, above, first)))) in
     let cell : x ≡ y = cell_is x y first face in
     rw (cell, tail) refl
 
@@ -161,7 +161,6 @@ nodes_same (x ∷ xs) (y ∷ ys) codes height node =
     let rest : codes_of xs ≡ codes_of ys = cc in
     rw (first, nodes_same xs ys rest height node) refl
 
-
 -- in either format masks lead from the root, whose word is the last, to the cells
 pub map_has_masks : (format levels number : ℕ) (words : List ℕ) (cells : List Cell) → StandFor format (suc levels) words cells → length words ≡ number + 1 → HasMasks words cells (suc levels) 0 number
 map_has_masks format levels number words cells stand long =
@@ -183,14 +182,14 @@ one_map format levels words xs ys x y =
     elim x.cells_are.known [
       | inl one ↦ faceless_same xs ys codes (x.cells_are.faceless one) (y.cells_are.faceless one)
       | inr two ↦
-        let x_two : StandFor 2 (suc levels) words xs = subst (λ f. StandFor f (suc levels) words xs) two x in
-        let y_two : StandFor 2 (suc levels) words ys = subst (λ f. StandFor f (suc levels) words ys) two y in
-        let tree_x : HasTree words (face_leaves xs) (suc levels) 0 number = map_has_faces levels number words xs x_two long in
-        let tree_y : HasTree words (face_leaves ys) (suc levels) 0 number = map_has_faces levels number words ys y_two long in
-        same_cells 0 xs ys codes (ascends 0 (codes_of xs) x.cells_are.map.ascending (λ some. omega arith))
-        (λ code has.
+          let x_two : StandFor 2 (suc levels) words xs = subst (λ f. StandFor f (suc levels) words xs) two x in
+          let y_two : StandFor 2 (suc levels) words ys = subst (λ f. StandFor f (suc levels) words ys) two y in
+          let tree_x : HasTree words (face_leaves xs) (suc levels) 0 number = map_has_faces levels number words xs x_two long in
+          let tree_y : HasTree words (face_leaves ys) (suc levels) 0 number = map_has_faces levels number words ys y_two long in
+          same_cells 0 xs ys codes (ascends 0 (codes_of xs) x.cells_are.map.ascending (λ some. omega arith))
+          (λ code has.
           (alike words (face_leaves xs) (face_leaves ys) (suc levels) 0 number tree_x tree_y
-            (nodes_same xs ys codes (suc levels) 0)
-            code (all_under_root (suc levels) code (All-contains (λ n. n < 8 ^ suc levels) (codes_of xs) code (codes_are (suc levels) xs x.cells_are.map).inside has))).word
+          (nodes_same xs ys codes (suc levels) 0)
+          code (all_under_root (suc levels) code (All-contains (λ n. n < 8 ^ suc levels) (codes_of xs) code (codes_are (suc levels) xs x.cells_are.map).inside has))).word
           (in_filled xs code has))
     ]

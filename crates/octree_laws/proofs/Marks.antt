@@ -17,7 +17,7 @@ use Rattle.octree_laws.proofs.Under.{div-up, div-leaf}
 abbrev pub IsMarked : ℕ → Type 0
 IsMarked word = word % 256 ≡ 0 → ⊥
 
-pub HasMarks : List Leaf → Type 0
+unfoldable pub HasMarks : List Leaf → Type 0
 HasMarks leaves = (node : ℕ) → is_nonempty leaves 0 node ≡ true → IsMarked (leaf_word leaves node)
 
 -- a nonempty node above the leaves has a nonempty child
@@ -30,20 +30,20 @@ pub some_child : (leaves : List Leaf) (height node : ℕ) → is_nonempty leaves
 some_child [] height node nonempty = cc
 some_child (leaf ∷ rest) height node nonempty = elim (or_cases (leaf.node / 8 ^ suc height == node) (is_nonempty rest (suc height) node) nonempty) [
   | inl here ↦
-    let up : leaf.node / 8 ^ height / 8 ≡ node = sym (div-up leaf.node height) ∙ eqb-true (leaf.node / 8 ^ suc height) node here in
-    let place : ℕ = leaf.node / 8 ^ height % 8 in
-    record {
-      place = place;
-      octant = omega arith;
-      nonempty = or_left (leaf.node / 8 ^ height == 8 * node + place) (is_nonempty rest height (8 * node + place)) (eq-eqb (leaf.node / 8 ^ height) (8 * node + place) (omega (arith, up)));
-    }
+      let up : leaf.node / 8 ^ height / 8 ≡ node = sym (div-up leaf.node height) ∙ eqb-true (leaf.node / 8 ^ suc height) node here in
+      let place : ℕ = leaf.node / 8 ^ height % 8 in
+      record {
+        place = place;
+        octant = omega arith;
+        nonempty = or_left (leaf.node / 8 ^ height == 8 * node + place) (is_nonempty rest height (8 * node + place)) (eq-eqb (leaf.node / 8 ^ height) (8 * node + place) (omega (arith, up)));
+      }
   | inr later ↦
-    let child : HasNonemptyChild rest height node = some_child rest height node later in
-    record {
-      place = child.place;
-      octant = child.octant;
-      nonempty = or_right (leaf.node / 8 ^ height == 8 * node + child.place) (is_nonempty rest height (8 * node + child.place)) child.nonempty;
-    }
+      let child : HasNonemptyChild rest height node = some_child rest height node later in
+      record {
+        place = child.place;
+        octant = child.octant;
+        nonempty = or_right (leaf.node / 8 ^ height == 8 * node + child.place) (is_nonempty rest height (8 * node + child.place)) child.nonempty;
+      }
 ]
 
 -- so its mask is not 0
@@ -55,7 +55,7 @@ some_mask leaves height node nonempty none =
     let word : mask_front leaves height node 8 + 256 * 0 ≡ 0 = omega (arith, none) in
     let no_ones : count_ones (0 % 256) ≡ length (first_children leaves height node 8) = subst (λ w. count_ones (w % 256) ≡ length (first_children leaves height node 8)) word octants.ones in
     let split : length (first_children leaves height node 8)
-        ≡ length (first_children leaves height node child.place) + suc (length (later_children leaves height node (child.place + 1) (7 - child.place))) =
+    ≡ length (first_children leaves height node child.place) + suc (length (later_children leaves height node (child.place + 1) (7 - child.place))) =
     ap length (children_at leaves height node child.place (7 - child.place) (omega (arith, child.octant)) child.nonempty)
     ∙ length-append (first_children leaves height node child.place) ((8 * node + child.place) ∷ later_children leaves height node (child.place + 1) (7 - child.place)) in
     omega (arith, no_ones, split)
@@ -93,7 +93,7 @@ below_marked leaves marks (suc height) node at =
     All-append IsMarked (in_turn (size_of leaves height) (below_of leaves height) at children) (in_turn (size_of leaves height) (λ child from. word_of leaves height child from ∷ []) at children)
     (All-in_turn IsMarked (λ child. is_nonempty leaves height child ≡ true) (size_of leaves height) (below_of leaves height) (λ child from nonempty. below_marked leaves marks height child from) at children (all_nonempty leaves height node 8))
     (All-in_turn IsMarked (λ child. is_nonempty leaves height child ≡ true) (size_of leaves height) (λ child from. word_of leaves height child from ∷ [])
-      (λ child from nonempty. All-cons IsMarked (word_of leaves height child from) [] (word_marked leaves marks height child from nonempty) (All-nil IsMarked)) at children (all_nonempty leaves height node 8))
+    (λ child from nonempty. All-cons IsMarked (word_of leaves height child from) [] (word_marked leaves marks height child from nonempty) (All-nil IsMarked)) at children (all_nonempty leaves height node 8))
 
 -- more than one word: the root is nonempty
 root_nonempty : (leaves : List Leaf) (levels : ℕ) → 0 < size_of leaves levels 0 → is_nonempty leaves levels 0 ≡ true
@@ -102,8 +102,8 @@ root_nonempty leaves zero some = absurd (omega arith)
 root_nonempty leaves (suc levels) some = elim (cases_Bool (is_nonempty leaves (suc levels) 0)) [
   | inl nonempty ↦ nonempty
   | inr empty ↦
-    let none : sum_by (λ child. 1 + size_of leaves levels child) (children_of leaves levels 0) ≡ 0 = ap (sum_by (λ child. 1 + size_of leaves levels child)) (no_children leaves levels 0 empty 8 (lit≤ tt)) in
-    absurd (omega (arith, none, some))
+      let none : sum_by (λ child. 1 + size_of leaves levels child) (children_of leaves levels 0) ≡ 0 = ap (sum_by (λ child. 1 + size_of leaves levels child)) (no_children leaves levels 0 empty 8 (lit≤ tt)) in
+      absurd (omega (arith, none, some))
 ]
 
 pub words_marked : (leaves : List Leaf) → HasMarks leaves → (levels : ℕ) → 1 < length (words_of leaves levels) → All IsMarked (words_of leaves levels)

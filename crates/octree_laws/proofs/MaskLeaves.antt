@@ -37,19 +37,19 @@ pub some_cell : (cells : List Cell) (height node limit : ℕ) → All (λ cell. 
 some_cell [] height node limit inside nonempty = cc
 some_cell (cell ∷ rest) height node limit inside nonempty = elim (or_cases (cell.code / 8 ^ height == node) (is_nonempty (face_leaves rest) height node) nonempty) [
   | inl here ↦ record {
-      code = cell.code;
-      inside = All-head (λ (c : Cell). c.code < limit) cell rest inside;
-      up = eqb-true (cell.code / 8 ^ height) node here;
-      filled = or_left (cell.code / 8 ^ 0 == cell.code) (is_nonempty (face_leaves rest) 0 cell.code) (eq-eqb (cell.code / 8 ^ 0) cell.code (div-leaf cell.code));
-    }
+    code = cell.code;
+    inside = All-head (λ (c : Cell). c.code < limit) cell rest inside;
+    up = eqb-true (cell.code / 8 ^ height) node here;
+    filled = or_left (cell.code / 8 ^ 0 == cell.code) (is_nonempty (face_leaves rest) 0 cell.code) (eq-eqb (cell.code / 8 ^ 0) cell.code (div-leaf cell.code));
+  }
   | inr later ↦
-    let there : HasCell rest height node limit = some_cell rest height node limit (All-tail (λ (c : Cell). c.code < limit) cell rest inside) later in
-    record {
-      code = there.code;
-      inside = there.inside;
-      up = there.up;
-      filled = or_right (cell.code / 8 ^ 0 == there.code) (is_nonempty (face_leaves rest) 0 there.code) there.filled;
-    }
+      let there : HasCell rest height node limit = some_cell rest height node limit (All-tail (λ (c : Cell). c.code < limit) cell rest inside) later in
+      record {
+        code = there.code;
+        inside = there.inside;
+        up = there.up;
+        filled = or_right (cell.code / 8 ^ 0 == there.code) (is_nonempty (face_leaves rest) 0 there.code) there.filled;
+      }
 ]
 
 -- ---- leaves made of the nodes that pass a test
@@ -82,17 +82,17 @@ module _ (f : ℕ → ℕ) (test : ℕ → Bool) where
   made_has height from zero n passes above below = absurd (omega arith)
   made_has height from (suc count) n passes above below = elim (cases_eq from n) [
     | inl same ↦
-      rw (made-yes from (range_with_len (from + 1) count) (subst (λ m. test m ≡ true) (sym same) passes))
-      (or_left (from / 8 ^ height == n / 8 ^ height) (is_nonempty (made (range_with_len (from + 1) count)) height (n / 8 ^ height))
+        rw (made-yes from (range_with_len (from + 1) count) (subst (λ m. test m ≡ true) (sym same) passes))
+        (or_left (from / 8 ^ height == n / 8 ^ height) (is_nonempty (made (range_with_len (from + 1) count)) height (n / 8 ^ height))
         (eq-eqb (from / 8 ^ height) (n / 8 ^ height) (ap (λ m. m / 8 ^ height) same)))
     | inr apart ↦
-      let later : is_nonempty (made (range_with_len (from + 1) count)) height (n / 8 ^ height) ≡ true = made_has height (from + 1) count n passes (omega (arith, apart)) (omega arith) in
-      elim (cases_Bool (test from)) [
-        | inl first ↦
-          rw (made-yes from (range_with_len (from + 1) count) first)
-          (or_right (from / 8 ^ height == n / 8 ^ height) (is_nonempty (made (range_with_len (from + 1) count)) height (n / 8 ^ height)) later)
-        | inr fails ↦ rw (made-no from (range_with_len (from + 1) count) fails) later
-      ]
+        let later : is_nonempty (made (range_with_len (from + 1) count)) height (n / 8 ^ height) ≡ true = made_has height (from + 1) count n passes (omega (arith, apart)) (omega arith) in
+        elim (cases_Bool (test from)) [
+          | inl first ↦
+              rw (made-yes from (range_with_len (from + 1) count) first)
+              (or_right (from / 8 ^ height == n / 8 ^ height) (is_nonempty (made (range_with_len (from + 1) count)) height (n / 8 ^ height)) later)
+          | inr fails ↦ rw (made-no from (range_with_len (from + 1) count) fails) later
+        ]
   ]
 
   made_word : (from count n : ℕ) → test n ≡ true → from ≤ n → n < from + count → leaf_word (made (range_with_len from count)) n ≡ f n
@@ -100,16 +100,16 @@ module _ (f : ℕ → ℕ) (test : ℕ → Bool) where
   made_word from zero n passes above below = absurd (omega arith)
   made_word from (suc count) n passes above below = elim (cases_eq from n) [
     | inl same ↦
-      rw (made-yes from (range_with_len (from + 1) count) (subst (λ m. test m ≡ true) (sym same) passes))
-      (cond-true (from == n) (f from) (leaf_word (made (range_with_len (from + 1) count)) n) (eq-eqb from n same) ∙ ap f same)
+        rw (made-yes from (range_with_len (from + 1) count) (subst (λ m. test m ≡ true) (sym same) passes))
+        (cond-true (from == n) (f from) (leaf_word (made (range_with_len (from + 1) count)) n) (eq-eqb from n same) ∙ ap f same)
     | inr apart ↦
-      let later : leaf_word (made (range_with_len (from + 1) count)) n ≡ f n = made_word (from + 1) count n passes (omega (arith, apart)) (omega arith) in
-      elim (cases_Bool (test from)) [
-        | inl first ↦
-          rw (made-yes from (range_with_len (from + 1) count) first)
-          (cond-false (from == n) (f from) (leaf_word (made (range_with_len (from + 1) count)) n) (ne_eqb from n apart) ∙ later)
-        | inr fails ↦ rw (made-no from (range_with_len (from + 1) count) fails) later
-      ]
+        let later : leaf_word (made (range_with_len (from + 1) count)) n ≡ f n = made_word (from + 1) count n passes (omega (arith, apart)) (omega arith) in
+        elim (cases_Bool (test from)) [
+          | inl first ↦
+              rw (made-yes from (range_with_len (from + 1) count) first)
+              (cond-false (from == n) (f from) (leaf_word (made (range_with_len (from + 1) count)) n) (ne_eqb from n apart) ∙ later)
+          | inr fails ↦ rw (made-no from (range_with_len (from + 1) count) fails) later
+        ]
   ]
 
   made_none : (nodes : List ℕ) (n : ℕ) → test n ≡ false → leaf_word (made nodes) n ≡ 0
@@ -117,8 +117,8 @@ module _ (f : ℕ → ℕ) (test : ℕ → Bool) where
   made_none [] n fails = refl
   made_none (m ∷ rest) n fails = elim (cases_Bool (test m)) [
     | inl passes ↦
-      rw (made-yes m rest passes)
-      (cond-false (m == n) (f m) (leaf_word (made rest) n) (ne_eqb m n (λ same. both_ways (test n) fails (subst (λ k. test k ≡ true) same passes))) ∙ made_none rest n fails)
+        rw (made-yes m rest passes)
+        (cond-false (m == n) (f m) (leaf_word (made rest) n) (ne_eqb m n (λ same. both_ways (test n) fails (subst (λ k. test k ≡ true) same passes))) ∙ made_none rest n fails)
     | inr out ↦ rw (made-no m rest out) (made_none rest n fails)
   ]
 
@@ -129,7 +129,7 @@ no_children leaves height node empty (suc count) few =
     let up : (8 * node + count) / 8 ≡ node = omega arith in
     let child : is_nonempty leaves height (8 * node + count) ≡ false =
     false_from_ne_true (is_nonempty leaves height (8 * node + count)) (λ nonempty.
-      both_ways (is_nonempty leaves (suc height) node) empty (subst (λ n. is_nonempty leaves (suc height) n ≡ true) up (nonempty_above leaves height (8 * node + count) nonempty))) in
+    both_ways (is_nonempty leaves (suc height) node) empty (subst (λ n. is_nonempty leaves (suc height) n ≡ true) up (nonempty_above leaves height (8 * node + count) nonempty))) in
     rw (← add-one count) (one_out leaves height node count child ∙ no_children leaves height node empty count (omega arith))
 
 -- ---- the leaves of format 1
@@ -145,16 +145,16 @@ module _ (levels : ℕ) (cells : List Cell) (inside : All (λ cell. cell.code < 
   nonempty_same height node =
       same_test (is_nonempty (mask_leaves levels cells) height node) (is_nonempty (face_leaves cells) (suc height) node)
       (λ nonempty.
-        let leaf : (n : ℕ) × (is_nonempty (face_leaves cells) 1 n ≡ true) × (n / 8 ^ height ≡ node) =
-        made_from (λ n. mask_of (children_of (face_leaves cells) 0 n)) (is_nonempty (face_leaves cells) 1) height node (range_with_len 0 (8 ^ levels)) nonempty in
-        let cell : HasCell cells 1 leaf.0 (8 ^ suc levels) = some_cell cells 1 leaf.0 (8 ^ suc levels) inside leaf.1 in
-        subst (λ n. is_nonempty (face_leaves cells) (suc height) n ≡ true) (two_steps height cell.code ∙ (ap (λ n. n / 8 ^ height) cell.up ∙ leaf.2))
-        (nonempty_up (face_leaves cells) (suc height) cell.code cell.filled))
+      let leaf : (n : ℕ) × (is_nonempty (face_leaves cells) 1 n ≡ true) × (n / 8 ^ height ≡ node) =
+      made_from (λ n. mask_of (children_of (face_leaves cells) 0 n)) (is_nonempty (face_leaves cells) 1) height node (range_with_len 0 (8 ^ levels)) nonempty in
+      let cell : HasCell cells 1 leaf.0 (8 ^ suc levels) = some_cell cells 1 leaf.0 (8 ^ suc levels) inside leaf.1 in
+      subst (λ n. is_nonempty (face_leaves cells) (suc height) n ≡ true) (two_steps height cell.code ∙ (ap (λ n. n / 8 ^ height) cell.up ∙ leaf.2))
+      (nonempty_up (face_leaves cells) (suc height) cell.code cell.filled))
       (λ nonempty.
-        let cell : HasCell cells (suc height) node (8 ^ suc levels) = some_cell cells (suc height) node (8 ^ suc levels) inside nonempty in
-        subst (λ n. is_nonempty (mask_leaves levels cells) height n ≡ true) (sym (two_steps height cell.code) ∙ cell.up)
-        (made_has (λ n. mask_of (children_of (face_leaves cells) 0 n)) (is_nonempty (face_leaves cells) 1) height 0 (8 ^ levels) (cell.code / 8 ^ 1)
-          (nonempty_up (face_leaves cells) 1 cell.code cell.filled) (omega arith) (omega (arith, parent_inside cell.code cell.inside))))
+      let cell : HasCell cells (suc height) node (8 ^ suc levels) = some_cell cells (suc height) node (8 ^ suc levels) inside nonempty in
+      subst (λ n. is_nonempty (mask_leaves levels cells) height n ≡ true) (sym (two_steps height cell.code) ∙ cell.up)
+      (made_has (λ n. mask_of (children_of (face_leaves cells) 0 n)) (is_nonempty (face_leaves cells) 1) height 0 (8 ^ levels) (cell.code / 8 ^ 1)
+      (nonempty_up (face_leaves cells) 1 cell.code cell.filled) (omega arith) (omega (arith, parent_inside cell.code cell.inside))))
     where
       two_steps : (height code : ℕ) → code / 8 ^ suc height ≡ code / 8 ^ 1 / 8 ^ height
       two_steps height code = ap (λ n. code / n) (pow-suc 8 height ∙ mul_comm (8 ^ height) 8) ∙ sym (div-div-eq-div-mul code 8 (8 ^ height))
@@ -167,8 +167,8 @@ module _ (levels : ℕ) (cells : List Cell) (inside : All (λ cell. cell.code < 
       let test : ℕ → Bool = is_nonempty (face_leaves cells) 1 in
       elim (cases_Bool (test node)) [
         | inl nonempty ↦
-          let cell : HasCell cells 1 node (8 ^ suc levels) = some_cell cells 1 node (8 ^ suc levels) inside nonempty in
-          made_word f test 0 (8 ^ levels) node nonempty (omega arith) (omega (arith, parent_inside cell.code cell.inside, cell.up))
+            let cell : HasCell cells 1 node (8 ^ suc levels) = some_cell cells 1 node (8 ^ suc levels) inside nonempty in
+            made_word f test 0 (8 ^ levels) node nonempty (omega arith) (omega (arith, parent_inside cell.code cell.inside, cell.up))
         | inr empty ↦ made_none f test (range_with_len 0 (8 ^ levels)) node empty ∙ sym (ap mask_of (no_children (face_leaves cells) 0 node empty 8 (lit≤ tt)))
       ]
 
@@ -178,9 +178,10 @@ module _ (levels : ℕ) (cells : List Cell) (inside : All (λ cell. cell.code < 
       let word : slice_index words number ≡ mask_front (face_leaves cells) 0 node 8 + 256 * 0 = tree ∙ (leaf_mask node ∙ omega arith) in
       let octants : HasOctants (face_leaves cells) 0 node 0 (slice_index words number) = subst (HasOctants (face_leaves cells) 0 node 0) (sym word) (has_octants (face_leaves cells) 0 node 0) in
       octants.bits
-  masks_from_leaves words (suc height) node number tree =
-      ((λ place octant. sym (nonempty_same height (8 * node + place)) ∙ tree.0 place octant),
-      λ place octant nonempty.
+  masks_from_leaves words (suc height) node number tree = (
+    (λ place octant. sym (nonempty_same height (8 * node + place)) ∙ tree.0 place octant),
+    λ place octant nonempty.
         let child : (child_number (slice_index words number) place < number) × HasTree words (mask_leaves levels cells) height (8 * node + place) (child_number (slice_index words number) place) =
         tree.1 place octant (nonempty_same height (8 * node + place) ∙ nonempty) in
-        (child.0, masks_from_leaves words height (8 * node + place) (child_number (slice_index words number) place) child.1))
+        (child.0, masks_from_leaves words height (8 * node + place) (child_number (slice_index words number) place) child.1),
+  )

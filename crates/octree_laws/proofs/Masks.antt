@@ -31,8 +31,8 @@ module _ (leaves : List Leaf) (height node : ℕ) where
   unfolding mask_front bit_of
   mask_front_more count octant = elim (cases_Bool (is_nonempty leaves height (8 * node + count))) [
     | inl nonempty ↦
-      let last : (8 * node + count) % 8 ≡ count = omega arith in
-      rw (nonempty, one_in leaves height node count nonempty, sum_by_push (λ c. 2 ^ (c % 8)) (first_children leaves height node count) (8 * node + count), last) (omega arith)
+        let last : (8 * node + count) % 8 ≡ count = omega arith in
+        rw (nonempty, one_in leaves height node count nonempty, sum_by_push (λ c. 2 ^ (c % 8)) (first_children leaves height node count) (8 * node + count), last) (omega arith)
     | inr empty ↦ rw (empty, one_out leaves height node count empty) (omega arith)
   ]
 

@@ -12,12 +12,14 @@ Ascends low (n ∷ rest) = (low ≤ n) × Ascends (n + 1) rest
 pub ascends : (low : ℕ) (numbers : List ℕ) → IsStrictlyIncreasing numbers → (0 < length numbers → low ≤ get_or numbers 0 0) → Ascends low numbers
 unfolding Ascends
 ascends low [] increasing least = tt
-ascends low (n ∷ rest) increasing least =
-    (least (omega arith), ascends (n + 1) rest
+ascends low (n ∷ rest) increasing least = (
+  least (omega arith),
+  ascends (n + 1) rest
       (λ k within.
-        let e : suc k + 1 ≡ suc (k + 1) = omega arith in
-        subst (λ j. get_or (n ∷ rest) (suc k) 0 < get_or (n ∷ rest) j 0) e (increasing (suc k) (omega (arith, within))))
-      (λ some. omega (arith, increasing 0 (omega (arith, some)))))
+      let e : suc k + 1 ≡ suc (k + 1) = omega arith in
+      subst (λ j. get_or (n ∷ rest) (suc k) 0 < get_or (n ∷ rest) j 0) e (increasing (suc k) (omega (arith, within))))
+      (λ some. omega (arith, increasing 0 (omega (arith, some)))),
+)
 
 -- by a member
 pub in_cases : (n : ℕ) (rest : List ℕ) (m : ℕ) → Contains (n ∷ rest) m → (n ≡ m) ⊎ Contains rest m

@@ -32,15 +32,16 @@ child_number_is words leaves height node at number stands place octant =
 pub has_tree : (words : List ℕ) (leaves : List Leaf) (height node at number : ℕ) → Stands words leaves height node at number → HasTree words leaves height node number
 unfolding word_of
 has_tree words leaves zero node at number stands = stands.own
-has_tree words leaves (suc height) node at number stands =
-    ((parent_word words leaves height node at number stands).bits,
-    λ place octant nonempty.
+has_tree words leaves (suc height) node at number stands = (
+  (parent_word words leaves height node at number stands).bits,
+  λ place octant nonempty.
       let child : ChildStands words leaves height (8 * node + place) number (base_of leaves height node at) (length (first_children leaves height node place)) =
       child_at words leaves height node at number stands place octant nonempty in
       let is : child_number (slice_index words number) place ≡ base_of leaves height node at + length (first_children leaves height node place) =
       child_number_is words leaves height node at number stands place octant in
       subst (λ n. (n < number) × HasTree words leaves height (8 * node + place) n) (sym is)
-      (child.before, has_tree words leaves height (8 * node + place) child.from (base_of leaves height node at + length (first_children leaves height node place)) child.stands))
+      (child.before, has_tree words leaves height (8 * node + place) child.from (base_of leaves height node at + length (first_children leaves height node place)) child.stands),
+)
 
 -- the words of an octree lead from its root, whose word is the last, to all its leaves
 pub words_have_tree : (leaves : List Leaf) (levels number : ℕ) → length (words_of leaves levels) ≡ number + 1 → HasTree (words_of leaves levels) leaves levels 0 number
