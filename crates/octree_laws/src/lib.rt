@@ -1,0 +1,2 @@
+//! Laws of octrees and of node files.
+#![tactic(auto)]
