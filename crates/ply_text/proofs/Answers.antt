@@ -18,7 +18,7 @@ use Rattle.ply_text.specs.declared.tokens.Tokens.{Tokens}
 use Rattle.ply_text.specs.Pieces.{Piece, belongs}
 use Rattle.ply_text.specs.NextPieces.{run_size, short_run_size, room_at, sized, next_place_of, next_token_of, next_line_of, front_token_of, white_size, token_size, line_size, line_of, without_return}
 use Rattle.ply_text.specs.Reading.{held, left_of}
-use Rattle.ply_text.specs.Calls.{fault_place}
+use Rattle.ply_text.specs.Calls.{fault_end}
 use Rattle.ply_text.specs.Holding.{Advances, Holds, Passes, PassedWhite, Finds, HoldsRun}
 
 -- a fault within the white space
@@ -92,10 +92,10 @@ nothing n long behind none (inr end) = end
 module _ {I : Type 0} {g : Ghosts I} where
   -- a fault that is the defined answer
   pub Finds-fault : {A : Type 0} (next : ℕ → List ℕ → Result A TextFault) (size : List ℕ → ℕ) (a b : Tokens I g) (result : Result A TextFault) (fault : TextFault)
-      → Advances a b → fault_place fault ≤ b.place + (b.to - b.from) → result ≡ Err fault → ((text : List ℕ) → left_of a ≡ Some text → fault ≢ ReadFault → next a.place text ≡ Err fault) → Finds next size a b result
+      → Advances a b → fault_end fault ≤ b.place + (b.to - b.from) → result ≡ Err fault → ((text : List ℕ) → left_of a ≡ Some text → fault ≢ ReadFault → next a.place text ≡ Err fault) → Finds next size a b result
   Finds-fault {A} next size a b result fault advances reached is why = record {
     advances = advances;
-    reached = let P : Result A TextFault → Type 0 = λ r. IfErr r (λ f. fault_place f ≤ b.place + (b.to - b.from)) in subst P (sym is) reached;
+    reached = let P : Result A TextFault → Type 0 = λ r. IfErr r (λ f. fault_end f ≤ b.place + (b.to - b.from)) in subst P (sym is) reached;
     answer = λ text told ok. is ∙ sym (why text told (λ read. ok (is ∙ ap Err read)));
     passed = λ text told. let P : Result A TextFault → Type 0 = λ r. IfOk r (λ _. (left_of b ≡ Some (drop (size text) text)) × (b.place ≡ a.place + size text)) in subst P (sym is) tt;
   }
@@ -134,7 +134,7 @@ module _ {I : Type 0} {g : Ghosts I} where
         (p.left ∙ ap (λ n. Some (drop n text)) size, p.place ∙ ap (λ n. a.place + n) size);
   }
 
-  pub Finds-token_fault : (a b c : Tokens I g) (result : Result (Option Piece) TextFault) (fault : TextFault) → Advances a b → Holds b c → fault_place fault ≤ c.place + (c.to - c.from) → ((text : List ℕ) → left_of a ≡ Some text → PassedWhite text a b true)
+  pub Finds-token_fault : (a b c : Tokens I g) (result : Result (Option Piece) TextFault) (fault : TextFault) → Advances a b → Holds b c → fault_end fault ≤ c.place + (c.to - c.from) → ((text : List ℕ) → left_of a ≡ Some text → PassedWhite text a b true)
       → ((text : List ℕ) → left_of b ≡ Some text → fault ≢ ReadFault → short_run_size Token 255 (TokenTooLong b.place) (room_at b.place) text ≡ Err fault)
       → result ≡ Err fault → Finds next_token_of token_size a c result
   Finds-token_fault a b c result fault advances holds reached passed why is =
@@ -169,7 +169,7 @@ module _ {I : Type 0} {g : Ghosts I} where
         );
   }
 
-  pub Finds-line_fault : (a b : Tokens I g) (result : Result (Option Piece) TextFault) (fault : TextFault) → Holds a b → fault_place fault ≤ b.place + (b.to - b.from)
+  pub Finds-line_fault : (a b : Tokens I g) (result : Result (Option Piece) TextFault) (fault : TextFault) → Holds a b → fault_end fault ≤ b.place + (b.to - b.from)
       → ((text : List ℕ) → left_of a ≡ Some text → fault ≢ ReadFault → short_run_size Line 1024 (LineTooLong a.place) (room_at a.place) text ≡ Err fault)
       → result ≡ Err fault → Finds next_line_of line_size a b result
   Finds-line_fault a b result fault holds reached why is =

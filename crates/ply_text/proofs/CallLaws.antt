@@ -16,10 +16,11 @@ use Rattle.ply_text.specs.Pieces.{Piece, belongs}
 use Rattle.ply_text.specs.HeaderLines.{header_lines}
 use Rattle.ply_text.specs.BodyTokens.{body_tokens}
 use Rattle.ply_text.specs.NextPieces.{run_size, short_run_size, sized, room_at, next_line_of, next_place_of, next_token_of, front_token_of, line_size, line_of, without_return, white_size, token_size}
-use Rattle.ply_text.specs.Reading.{left_of, reading}
-use Rattle.ply_text.specs.Holding.{Finds, IsCaused}
-use Rattle.ply_text.specs.Calls.{answered, Call}
-use Rattle.ply_text.proofs.Runs.{behind_white}
+use Rattle.ply_text.specs.Reading.{held, left_of, reading}
+use Rattle.ply_text.specs.Holding.{Finds, HoldsSought, IsCaused}
+use Rattle.ply_text.specs.Calls.{answered, Call, IsSought}
+use Rattle.ply_text.proofs.Blocks.{length-held, told_parts}
+use Rattle.ply_text.proofs.Runs.{behind_white, run-append-le}
 use Rattle.ply_text.proofs.RunSizes.{short_run_size-ok}
 use Rattle.ply_text.proofs.Lines.{header_lines-feed, header_lines-last}
 use Rattle.ply_text.proofs.BodyWords.{body_tokens-white, body_tokens-front}
@@ -201,3 +202,26 @@ module _ {I : Type 0} {g : Ghosts I} where
   Call-from_made f next size a b stopped raw free stops finds cause ended =
       Call-from_finds next size a b stopped (answered f raw) free (stops ∙ answered-err f raw) finds (record { later = cause.later; failed = λ is. cause.failed (answered-fault f raw is) })
       (answered-ended f (b.to - b.from ≡ 0) raw ended)
+
+-- what was made of a fault is that fault
+answered_err : {A B : Type 0} (piece : A → B) (raw : Result (Option A) TextFault) (fault : TextFault) → answered piece raw ≡ Err fault → raw ≡ Err fault
+answered_err piece (Ok found) fault is = absurd (cc)
+answered_err piece (Err why) fault is = let same : why ≡ fault = cc in ap Err same
+
+module _ {I : Type 0} {g : Ghosts I} where
+  -- what is held of a run is what is read of it
+  pub sought_by : {A B : Type 0} (piece : A → B) (run : Run) (limit : ℕ) (t : Tokens I g) (raw : Result (Option A) TextFault)
+      → (raw ≡ Err ReadFault → HoldsSought run limit t) → answered piece raw ≡ Err ReadFault → IsSought run limit (t.to - t.from) (left_of t)
+  sought_by piece run limit t raw sought is =
+      let holds = sought (answered_err piece raw ReadFault is) in
+      let long = length-held t.block.now t.from t.to t.ordered t.inside in
+      record {
+        few = omega (arith, long, holds.few);
+        inside = λ text told.
+            let parts = told_parts (held t) (g.rest t.input.now) text told in
+            subst (λ bytes. t.to - t.from ≤ prefix_len (belongs run) bytes) (sym parts.2)
+            (omega (arith, long, holds.inside, run-append-le (belongs run) (held t) parts.0));
+      }
+
+  pub none_held : (t : Tokens I g) → held t ≡ [] → t.to - t.from ≡ 0
+  none_held t none = sym (length-held t.block.now t.from t.to t.ordered t.inside) ∙ ap length none

@@ -5,6 +5,7 @@ use Rattle.std.proofs.lemmas.List.{drop-drop}
 use Rattle.dev_traits.specs.declared.device.ByteSource.{Ghosts}
 use Rattle.ply_text.specs.declared.tokens.Tokens.{Tokens}
 use Rattle.ply_text.specs.declared.fault.TextFault.{TextFault}
+use Rattle.ply_text.specs.declared.fault.TextFault.TheVariants.{LineTooLong, TokenTooLong, TooLong, ReadFault}
 use Rattle.ply_text.specs.declared.tokens.Token.{Token}
 use Rattle.ply_text.specs.declared.tokens.Line.{Line}
 use Rattle.ply_text.specs.Pieces.{Piece}
@@ -12,7 +13,7 @@ use Rattle.ply_text.specs.BodyTokens.{body_tokens}
 use Rattle.ply_text.specs.NextPieces.{token_size}
 use Rattle.ply_text.specs.Reading.{Reading, StandsIn, held, reading}
 use Rattle.ply_text.proofs.Blocks.{told_parts, length-held}
-use Rattle.ply_text.specs.Calls.{Call, fault_place, LineCall, TokenCall, answered, line_piece, token_piece}
+use Rattle.ply_text.specs.Calls.{Call, fault_place, fault_end, LineCall, TokenCall, answered, line_piece, token_piece}
 
 -- an option that is no Some
 pub None-from_default : {A : Type 0} (o : Option A) → ((x : A) → o ≡ Some x → ⊥) → o ≡ None
@@ -77,8 +78,19 @@ module _ {I : Type 0} {g : Ghosts I} where
       let place : t.place ≡ 0 = ap (λ r. r.place) start in
       record { left = ap (λ r. r.left) start ∙ told ∙ ap (λ n. Some (drop n text)) (sym place); within = omega (arith, place) }
 
--- at a fault the bytes before its place were read
+-- at a fault all bytes that show it were read
+pub seen_by : {A B : Type 0} (next : ℕ → List ℕ → Result (Option B) TextFault) (size : List ℕ → ℕ) (piece : A → B) (a b : Reading) (result : Result (Option A) TextFault) (fault : TextFault)
+    → result ≡ Err fault → a.stopped ≡ None → Call next size a b (answered piece result) → fault_end fault ≤ b.place + b.ahead
+seen_by {A} {B} next size piece a b result fault is free call =
+    let P : Result (Option A) TextFault → Type 0 = λ r. IfErr (answered piece r) (λ why. fault_end why ≤ b.place + b.ahead) in subst P is (call.reached free)
+
+-- among them all bytes before its place
+place_before_end : (fault : TextFault) → fault_place fault ≤ fault_end fault
+place_before_end (LineTooLong place) = omega arith
+place_before_end (TokenTooLong place) = omega arith
+place_before_end TooLong = omega arith
+place_before_end ReadFault = omega arith
+
 pub reached_by : {A B : Type 0} (next : ℕ → List ℕ → Result (Option B) TextFault) (size : List ℕ → ℕ) (piece : A → B) (a b : Reading) (result : Result (Option A) TextFault) (fault : TextFault)
     → result ≡ Err fault → a.stopped ≡ None → Call next size a b (answered piece result) → fault_place fault ≤ b.place + b.ahead
-reached_by {A} {B} next size piece a b result fault is free call =
-    let P : Result (Option A) TextFault → Type 0 = λ r. IfErr (answered piece r) (λ why. fault_place why ≤ b.place + b.ahead) in subst P is (call.reached free)
+reached_by next size piece a b result fault is free call = omega (arith, place_before_end fault, seen_by next size piece a b result fault is free call)

@@ -1,5 +1,5 @@
 -- What the held bytes say of a run of the text.
-use Rattle.std.proofs.Common.{◌≡◌, ◌≢◌, ℕ, ◌+◌, ◌<◌, ◌≤◌, min, Bool, true, false, ◌&&◌, nat_lt, nat_le, if◌then◌else◌, ◌⊎◌, inl, inr, List, [], ◌++◌, length, Result, Ok, Err, IfOk, refl, sym, ap, ◌∙◌, arith, subst, append-nil, length-append, Option, None, Some, not, IsErr, IsErrAnd}
+use Rattle.std.proofs.Common.{◌≡◌, ◌≢◌, ℕ, ◌+◌, ◌<◌, ◌≤◌, min, Bool, true, false, ◌&&◌, nat_lt, nat_le, if◌then◌else◌, ◌⊎◌, inl, inr, List, [], ◌++◌, length, Result, Ok, Err, IfOk, refl, sym, ap, ◌∙◌, arith, subst, append-nil, length-append, Option, None, Some, not, IsErr, IsErrAnd, OnErr, IfErr, ◌^◌}
 use Rattle.std.specs.Io.KnownBytes.{prepend_known, IsAtEnd}
 use Rattle.std.specs.List.{prefix_len}
 use Rattle.std.proofs.lemmas.List.Sums.{prefix_len-le-length}
@@ -10,6 +10,7 @@ use Rattle.ply_text.specs.declared.fault.TextFault.TheVariants.{TooLong, ReadFau
 use Rattle.ply_text.specs.declared.run.Run.{Run}
 use Rattle.ply_text.specs.Pieces.{belongs}
 use Rattle.ply_text.specs.NextPieces.{run_size, short_run_size, room_at}
+use Rattle.ply_text.specs.Calls.{fault_end}
 use Rattle.ply_text.specs.Holding.{checked_size}
 use Rattle.ply_text.proofs.Runs.{run-append, run-append-le}
 
@@ -99,3 +100,26 @@ seen_fits room size held h e = (grind (arith, nat_tests), λ k. grind (arith, na
 pub err_is : {A : Type 0} (r : Result A TextFault) (fault : TextFault) → IsErr r × IsErrAnd r (λ e. e ≡ fault) → r ≡ Err fault
 err_is (Ok x) fault h = absurd (let e = h.0 in cc)
 err_is (Err e) fault h = ap Err h.1
+
+-- what no answer but a fault says
+pub on_err_from : {T E P : Type 0} (r : Result T E) → P → OnErr r P
+on_err_from (Ok x) holds = tt
+on_err_from (Err e) holds = holds
+
+-- the bytes that show a fault of a run are held
+fault_held : (fault : TextFault) (size end : ℕ) (long late : Bool) → (long ≡ true → fault_end fault ≤ end) → (late ≡ true → 2 ^ 62 + 1 ≤ end)
+    → IfErr (if long then Err fault else (if late then Err TooLong else Ok size)) (λ f. fault_end f ≤ end)
+fault_held fault size end true late is_long is_late = is_long refl
+fault_held fault size end false true is_long is_late = is_late refl
+fault_held fault size end false false is_long is_late = tt
+
+both_true : (p q : Bool) → (p && q) ≡ true → q ≡ true
+both_true true q is = is
+both_true false q is = absurd (cc)
+
+pub checked_reached : (limit : ℕ) (fault : TextFault) (place held size : ℕ) → fault_end fault ≡ place + limit + 1 → place ≤ 2 ^ 62 → size ≤ held
+    → IfErr (checked_size limit fault (room_at place) held size) (λ f. fault_end f ≤ place + held)
+checked_reached limit fault place held size end within fits =
+    fault_held fault size (place + held) (nat_lt limit (min size (room_at place))) (nat_le (room_at place) size && nat_lt (room_at place) held)
+    (λ long. let more : limit < min size (room_at place) = grind (arith, nat_tests, long) in omega (arith, more, end, fits))
+    (λ late. let behind : room_at place < held = grind (arith, nat_tests, both_true (nat_le (room_at place) size) (nat_lt (room_at place) held) late) in omega (arith, behind, within))

@@ -13,7 +13,7 @@ use Rattle.ply_text.specs.declared.tokens.Span.{Span}
 use Rattle.ply_text.specs.Pieces.{Piece, belongs}
 use Rattle.ply_text.specs.NextPieces.{run_size, room_at, white_size}
 use Rattle.ply_text.specs.Reading.{held, left_of}
-use Rattle.ply_text.specs.Calls.{fault_place}
+use Rattle.ply_text.specs.Calls.{fault_end}
 
 -- the bytes of a block that a span names
 abbrev pub piece_in : List ℕ → Span → Piece
@@ -58,6 +58,11 @@ module _ {I : Type 0} {g : Ghosts I} where
     pub later : g.faults old.input.now ≤ g.faults new.input.now
     pub failed : IfErr result (λ fault. (fault ≡ ReadFault) × Rose (g.faults old.input.now) (g.faults new.input.now))
 
+  -- all that is held belongs to the run, and is at most so many bytes
+  pub record HoldsSought (run : Run) (limit : ℕ) (new : Tokens I g) : Type 0 where
+    pub few : length (held new) ≤ limit
+    pub inside : prefix_len (belongs run) (held new) ≡ length (held new)
+
   -- so many of the held bytes were passed
   pub record Passes (count : ℕ) (old new : Tokens I g) : Type 0 where
     pub keeps : Keeps old new
@@ -91,7 +96,7 @@ module _ {I : Type 0} {g : Ghosts I} where
   -- the answer is the one defined, and at Ok so many bytes were passed
   pub record Finds {A : Type 0} (next : ℕ → List ℕ → Result A TextFault) (size : List ℕ → ℕ) (old new : Tokens I g) (result : Result A TextFault) : Type 0 where
     pub advances : Advances old new
-    pub reached : IfErr result (λ fault. fault_place fault ≤ new.place + (new.to - new.from))
+    pub reached : IfErr result (λ fault. fault_end fault ≤ new.place + (new.to - new.from))
     pub answer : (text : List ℕ) → left_of old ≡ Some text → result ≢ Err ReadFault → result ≡ next old.place text
     pub passed : (text : List ℕ) → left_of old ≡ Some text → IfOk result (λ _. (left_of new ≡ Some (drop (size text) text)) × (new.place ≡ old.place + size text))
 

@@ -166,3 +166,18 @@ fn a_failed_read_stops_the_reader(rt: HostRuntime) {
         assert_eq!(rt; source.fault_count(), 1, "faults");
     }
 }
+
+#[test]
+fn a_line_that_is_held_needs_no_further_read(rt: HostRuntime) {
+    let mut block = [0; 2048];
+    let mut source = MemSource::new(rt.alloc(), b"ab\ncd", 3, &[2]).expect(&rt, "memory");
+    let mut tokens = Tokens::new(&mut source, &mut block);
+    match tokens.next_line() {
+        Ok(Some(line)) => assert!(rt; line.bytes == b"ab".as_slice(), "the line that was read"),
+        _ => assert!(rt; false, "a line"),
+    }
+    assert!(rt;
+        matches!(tokens.next_line(), Err(TextFault::ReadFault)),
+        "the next line needs the read that fails"
+    );
+}

@@ -53,9 +53,9 @@ impl<I: ByteSource> Tokens<'_, I> {
     ghost use Rattle.std.specs.List.{prefix_len};
     ghost use Rattle.ply_text.specs.Pieces.{belongs, IsLine, IsToken};
     ghost use Rattle.ply_text.specs.Reading.{held, left_of};
-    ghost use Rattle.ply_text.specs.Holding.{IsCaused, Keeps, Holds, ReadsOn, HoldsRun, Passes, PassesWhite, PassedWhite, Finds, LiesIn, IsOneOf, checked_size, piece_in};
+    ghost use Rattle.ply_text.specs.Holding.{IsCaused, Keeps, Holds, ReadsOn, HoldsRun, HoldsSought, Passes, PassesWhite, PassedWhite, Finds, LiesIn, IsOneOf, checked_size, piece_in};
     ghost use Rattle.ply_text.specs.NextPieces.{run_size, short_run_size, room_at, line_of, line_size, token_size, white_size, next_line_of, next_place_of, next_token_of};
-    ghost use Rattle.ply_text.specs.Calls.{answered, fault_place, IsLineFault, IsTokenFault, IsPlaceFault};
+    ghost use Rattle.ply_text.specs.Calls.{answered, fault_end, IsLineFault, IsTokenFault, IsPlaceFault};
 
     /// Moves the held bytes to the block's front, so that the next read has the most room.
     fn to_front(&mut self)
@@ -78,6 +78,7 @@ impl<I: ByteSource> Tokens<'_, I> {
     fn more(&mut self) -> Result<bool, TextFault>
         requires { length (held self.old) < 2048 }
         ensures reads { ReadsOn self.old self.new result }
+        ensures stuck { OnErr result (held self.new ≡ held self.old) }
         ensures grown { IfOk result (λ grew. MatchBool grew (length (held self.old) < length (held self.new))
             ((held self.new ≡ held self.old) × IsAtEnd (I.rest self.new.input.now))) }
     {
@@ -98,6 +99,7 @@ impl<I: ByteSource> Tokens<'_, I> {
         requires { limit ≤ 1024 }
         ensures reads { ReadsOn self.old self.new result }
         ensures run { IfOk result (λ size. HoldsRun run limit size self.new) }
+        ensures sought { OnErr result (HoldsSought run limit self.new) }
     {
         let mut size = 0;
         'reads: loop {
@@ -135,11 +137,12 @@ impl<I: ByteSource> Tokens<'_, I> {
     fn find_run(&mut self, run: Run, limit: usize, fault: TextFault) -> Result<usize, TextFault>
         requires small { limit ≤ 1024 }
         requires fault { fault ≢ TextFault.ReadFault }
-        requires here { fault_place fault ≤ self.old.place }
+        requires here { fault_end fault ≡ self.old.place + limit + 1 }
         ensures holds { Holds self.old self.new }
         ensures reached { IfErr result (λ fault.
-            fault_place fault ≤ self.new.place + (self.new.to - self.new.from)) }
+            fault_end fault ≤ self.new.place + (self.new.to - self.new.from)) }
         ensures kind { IfErr result (IsOneOf fault) }
+        ensures sought { result ≡ Err TextFault.ReadFault → HoldsSought run limit self.new }
         ensures answer { (text : List ℕ) → left_of self.old ≡ Some text → result ≢ Err TextFault.ReadFault
             → result ≡ short_run_size run limit fault (room_at self.old.place) text }
         ensures run { IfOk result (λ size. HoldsRun run limit size self.new × (size ≤ limit)
@@ -197,9 +200,10 @@ impl<I: ByteSource> Tokens<'_, I> {
     fn pass_white(&mut self) -> Result<bool, TextFault>
         ensures passes { PassesWhite self.old self.new }
         ensures reached { IfErr result (λ fault.
-            fault_place fault ≤ self.new.place + (self.new.to - self.new.from)) }
+            fault_end fault ≤ self.new.place + (self.new.to - self.new.from)) }
         ensures ended { IfOk result (λ found. found ≡ false → self.new.to - self.new.from ≡ 0) }
         ensures kind { IfErr result IsPlaceFault }
+        ensures sought { result ≡ Err TextFault.ReadFault → held self.new ≡ [] }
         ensures found { IfOk result (λ found.
             MatchBool found (0 < prefix_len (belongs Run.Token) (held self.new)) (held self.new ≡ [])) }
         ensures answer { (text : List ℕ) → left_of self.old ≡ Some text
@@ -224,6 +228,7 @@ impl<I: ByteSource> Tokens<'_, I> {
             → IfErr result (λ _. self.new.place - self.old.place ≤ white_size text) }
         ensures ended { IfOk result (λ found. IfNone found (self.new.to - self.new.from ≡ 0)) }
         ensures refused { IfErr result IsPlaceFault }
+        ensures sought { result ≡ Err TextFault.ReadFault → held self.new ≡ [] }
         ensures place { IfOk result (λ found. IfSome found (λ place. place ≡ self.new.place)) }
         ensures cause { IsCaused self.old self.new result }
     {
@@ -239,6 +244,7 @@ impl<I: ByteSource> Tokens<'_, I> {
             → IfErr result (λ _. self.new.place - self.old.place ≤ white_size text) }
         ensures ended { IfOk result (λ found. IfNone found (self.new.to - self.new.from ≡ 0)) }
         ensures refused { IfErr result (IsTokenFault self.new.place) }
+        ensures sought { result ≡ Err TextFault.ReadFault → HoldsSought Run.Token 255 self.new }
         ensures inside { IfOk result (λ found. IfSome found (LiesIn self.new.block.now)) }
         ensures bounds { IfOk (answered (piece_in self.new.block.now) result) (λ found. IfSome found
             (λ token. (self.old.place ≤ token.place) × (token.place + length token.bytes ≡ self.new.place) × IsToken token)) }
@@ -279,6 +285,7 @@ impl<I: ByteSource> Tokens<'_, I> {
         ensures ended { IfOk result (λ found. IfNone found (self.new.to - self.new.from ≡ 0)) }
         ensures refused { IfErr result (λ fault.
             (self.new.place ≡ self.old.place) × IsLineFault self.old.place fault) }
+        ensures sought { result ≡ Err TextFault.ReadFault → HoldsSought Run.Line 1024 self.new }
         ensures inside { IfOk result (λ found. IfSome found (LiesIn self.new.block.now)) }
         ensures bounds { IfOk (answered (piece_in self.new.block.now) result)
             (λ found. IfSome found (λ line. (line.place ≡ self.old.place) × (self.old.place < self.new.place)

@@ -7,6 +7,7 @@ use Rattle.ply_text.specs.Reading.{held}
 use Rattle.ply_text.proofs.Blocks.{length-held}
 use Rattle.ply_text.proofs.Readers.{Holds-trans}
 use Rattle.ply_text.proofs.Runs.{run-front}
+use Rattle.ply_text.proofs.RunSizes.{on_err_from}
 use Rattle.ply_text.proofs.tokens.Tokens.hold_run.Goals as goal
 
 pub held_size-size-requires-clause-held : goal.held_size-size-requires-clause-held
@@ -31,3 +32,15 @@ reads-preserved g c =
       later = omega (arith, c.reads.invariant.later, reads.later);
       size = omega (arith, c.held_size-size.ensures, run-front (belongs c.args.run) (length (held s)) (held s) (held t) reads.holds.front);
     }
+
+pub returns-in_err-more-clause-sought : goal.returns-in_err-more-clause-sought
+returns-in_err-more-clause-sought g c =
+    let s = c.reads.self in
+    let t = c.more.new.self in
+    let same : held t ≡ held s = c.in_err-more.ensures.stuck in
+    let long = length-held s.block.now s.from s.to s.ordered s.inside in
+    let most = prefix_len-le-length (belongs c.args.run) (held s) in
+    on_err_from c.from_residual.result (record {
+      few = rw same (omega (arith, c.held_size-size.ensures, c.if-size-self.false, c.if-size-limit.false, long));
+      inside = rw same (omega (arith, c.held_size-size.ensures, c.if-size-self.false, long, most));
+    })
