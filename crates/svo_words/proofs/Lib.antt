@@ -1,0 +1,12 @@
+pub mod Agreement
+pub mod Answering
+pub mod Choosing
+pub mod Counts
+pub mod Digits
+pub mod NumberLists
+pub mod Parts
+pub mod Rows
+pub mod Rules
+pub mod Spellings
+pub mod Tests
+pub mod Walks

@@ -1,0 +1,16 @@
+pub mod Build
+pub mod Choices
+pub mod Counting
+pub mod Forms
+pub mod Grammar
+pub mod Lookups
+pub mod Matching
+pub mod Names
+pub mod NumberFronts
+pub mod Numbers
+pub mod Reading
+pub mod Seen
+pub mod Settings
+pub mod Steps
+pub mod Tables
+pub mod Values
