@@ -30,8 +30,11 @@ use Rattle.svo_words.proofs.Walks.{both_walks, Walked}
 simple : (choices : List Choice) → is_simple (app_for choices) ≡ true
 simple choices =
     ap (λ (b : App). is_buildable (app_for choices) && (is_ready b.top && list_all is_ready_leaf b.subs)) (built_is choices)
-    ∙ rw (all_simple choices, all_rules (λ (a : Rule). a.is_simple) (λ choice. refl) choices,
-    no_rule (is_early_multiple (count_by (λ (a : Rule). is_some a.index) (map rule choices))) (λ choice. refl) choices) refl
+    ∙ rw (
+      all_simple choices,
+      all_rules (λ (a : Rule). a.is_simple) (λ choice. refl) choices,
+      no_rule (is_early_multiple (count_by (λ (a : Rule). is_some a.index) (map rule choices))) (λ choice. refl) choices,
+    ) refl
 
 -- ---- no option stands twice
 
@@ -54,14 +57,16 @@ fresh_from : (rows : List Row) (settings : List Setting)
     → ((name : Text) → 0 < count_of name settings → (has_row name rows ≡ false) × (count_of name settings ≤ 1)) → AreFresh rows settings
 fresh_from rows [] single = tt
 fresh_from rows (setting ∷ rest) single =
-    let own : is_of setting.name setting ≡ true = bytes_same setting.name in
-    ((single setting.name (rw own (omega arith))).0, fresh_from (rows ++ row setting ∷ []) rest (λ name above.
-      elim (cases_Bool (is_of name setting)) [
-        | inl same ↦ let most = (single name (rw same (omega arith))).1 in absurd (omega (arith, rw same at most))
-        | inr other ↦
-            let before = single name (rw other (omega (arith, above))) in
-            (has_more name rows setting ∙ rw (before.0, other) refl, omega (arith, rw other at before.1))
-      ]))
+    let own : is_of setting.name setting ≡ true = bytes_same setting.name in (
+      (single setting.name (rw own (omega arith))).0,
+      fresh_from (rows ++ row setting ∷ []) rest (λ name above.
+          elim (cases_Bool (is_of name setting)) [
+            | inl same ↦ let most = (single name (rw same (omega arith))).1 in absurd (omega (arith, rw same at most))
+            | inr other ↦
+                let before = single name (rw other (omega (arith, above))) in
+                (has_more name rows setting ∙ rw (before.0, other) refl, omega (arith, rw other at before.1))
+          ]),
+    )
 
 -- an option that stands is in the table
 known_here : (choices : List Choice) (own name : Text) (b : Bool) → takes_value choices own ≡ Some b → bytes_eq own name ≡ true
@@ -117,9 +122,9 @@ fresh : (choices : List Choice) (words : List Text) (settings : List Setting) �
 fresh choices words settings is counted =
     let spelled = (both_read choices words).0 settings is in
     fresh_from [] settings (λ name above.
-      let above_written : 0 < count_of name (map setting_of spelled.written) = omega (arith, above, ap (count_of name) spelled.settings_are) in
-      let one = known choices spelled.written spelled.allowed name above_written in
-      (refl, counted_once choices settings name one.0 counted one.1))
+    let above_written : 0 < count_of name (map setting_of spelled.written) = omega (arith, above, ap (count_of name) spelled.settings_are) in
+    let one = known choices spelled.written spelled.allowed name above_written in
+    (refl, counted_once choices settings name one.0 counted one.1))
 
 -- ---- the words are taken, and their settings found
 
@@ -134,8 +139,13 @@ taken choices words settings is counted =
     let walked = walks choices words settings is counted in
     let rules = map rule choices in
     let level : level_passes (shape_with rules) [] nothing_held words false ≡ true =
-    rw (walked.passes, walked.settles, all_rules default_passes (λ choice. refl) choices, all_rules (λ (a : Rule). a.is_free) (λ choice. refl) choices,
-    all_rules (λ (a : Rule). not a.required || is_given a.id (finished rules (walk rules [] nothing_held words).held)) (λ choice. refl) choices) refl in
+    rw (
+      walked.passes,
+      walked.settles,
+      all_rules default_passes (λ choice. refl) choices,
+      all_rules (λ (a : Rule). a.is_free) (λ choice. refl) choices,
+      all_rules (λ (a : Rule). not a.required || is_given a.id (finished rules (walk rules [] nothing_held words).held)) (λ choice. refl) choices,
+    ) refl in
     let built_passes : built_takes (built_with rules) nothing_held words ≡ true = leaf_takes (built_with rules) nothing_held words refl level in
     ap₂ (λ a b. a && b) (simple choices) (ap (λ (b : App). built_takes b nothing_held words) (built_is choices) ∙ built_passes)
 

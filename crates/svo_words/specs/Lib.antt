@@ -3,8 +3,10 @@ pub mod Choices
 pub mod Counting
 pub mod Forms
 pub mod Grammar
+pub mod Kinds
 pub mod Lookups
 pub mod Matching
+pub mod Meaning
 pub mod Names
 pub mod NumberFronts
 pub mod Numbers

@@ -1,13 +1,11 @@
 -- The values of options as numbers, texts and words of a list.
-use Rattle.std.specs.Prelude.{ℕ, Bool, if◌then◌else◌, List, ℤ, Option, None, Some, is_some, codes}
-use Rattle.std.specs.Str.{bytes_eq}
+use Rattle.std.specs.Prelude.{ℕ, Bool, if◌then◌else◌, List, ℤ, Option, None, Some, is_some}
 use Rattle.svo_words.specs.Grammar.{is_separate}
+use Rattle.svo_words.specs.Kinds.{axis_of, kind_of}
 use Rattle.svo_words.specs.Lookups.{Lookup}
 use Rattle.svo_words.specs.Numbers.{number_of, numbers_of, ◌>>=◌}
 use Rattle.svo_words.specs.declared.kinds.AxisWord.{AxisWord}
-use Rattle.svo_words.specs.declared.kinds.AxisWord.TheVariants.{X, Y, Z}
 use Rattle.svo_words.specs.declared.kinds.KindWord.{KindWord}
-use Rattle.svo_words.specs.declared.kinds.KindWord.TheVariants.{Parallel, Pinhole}
 
 abbrev pub is_set : Lookup → List ℕ → Bool
 is_set values name = is_some (values name)
@@ -42,21 +40,8 @@ text_if default (Some value) = text_of value
 unfoldable pub text_or : List ℕ → Lookup → List ℕ → Option (List ℕ)
 text_or default values name = text_if default (values name)
 
-unfoldable pub axis_of : List ℕ → Option AxisWord
-axis_of value =
-    if bytes_eq value (codes "x") then Some X
-    else (if bytes_eq value (codes "y") then Some Y
-    else (if bytes_eq value (codes "z") then Some Z
-    else None))
-
-unfoldable pub kind_of : List ℕ → Option KindWord
-kind_of value =
-    if bytes_eq value (codes "parallel") then Some Parallel
-    else (if bytes_eq value (codes "pinhole") then Some Pinhole
-    else None)
-
-abbrev pub axis_in : Lookup → List ℕ → Option AxisWord
+unfoldable pub axis_in : Lookup → List ℕ → Option AxisWord
 axis_in values name = values name >>= axis_of
 
-abbrev pub kind_in : Lookup → List ℕ → Option KindWord
+unfoldable pub kind_in : Lookup → List ℕ → Option KindWord
 kind_in values name = values name >>= kind_of

@@ -8,9 +8,9 @@ ghost use Rattle.svo_words.specs.Forms.{form_of, build_form, read_as};
 ghost use Rattle.svo_words.specs.Reading.{IsRead, AreValues};
 
 use crate::build::{BuildWords, build_choices, build_from};
+use crate::choices::Choice;
 use crate::form_test::is_in_form;
 use crate::matching::matches_of;
-use crate::choices::Choice;
 use crate::values::Values;
 use std::alloc::Global;
 use svo_base::Words;
@@ -66,7 +66,7 @@ fn read_build(alloc: Global, words: &[String]) -> Result<Command, WordFault>
 }
 
 /// The values of a command's options.
-fn read_values<'a>(
+pub(crate) fn read_values<'a>(
     alloc: Global,
     choices: &'a [Choice<'a>],
     words: &'a [String],

@@ -45,7 +45,7 @@ fn are_counted(choices: &[Choice], words: &[String]) -> bool
 }
 
 /// Whether an option stands as often as it may.
-#[tactic(auto, using(crate::proofs::Tests::none_passes))]
+#[tactic(auto, using(crate::proofs::FormTests::none_passes))]
 fn is_counted(choices: &[Choice], words: &[String], choice: &Choice) -> bool
     ensures { result ≡ passes (λ settings. is_counted settings choice.now) (settings_of choices.now (map string_bytes words.now)) }
 {
@@ -141,7 +141,7 @@ fn met<'a>(choice: &Choice<'a>, value: Option<&[u8]>) -> Option<Step<'a>>
         }),
         None => Some(set),
         Some(text) if choice.takes_value && !text.is_empty() => Some(set),
-        Some(_) => None,
+        _ => None,
     }
 }
 
@@ -187,7 +187,7 @@ fn equals_sign(text: &[u8]) -> Option<usize>
 }
 
 /// Whether a text may be a value in a word of its own.
-fn is_separate(text: &[u8]) -> bool
+pub(crate) fn is_separate(text: &[u8]) -> bool
     ensures { result ≡ is_separate text.now }
 {
     match text {

@@ -1,8 +1,11 @@
 //! Values that are texts, axes or kinds of pictures.
 
-ghost use Rattle.std.specs.Prelude.{◌≡◌, ℕ, List, IfOk};
+ghost use Rattle.std.specs.Prelude.{◌≡◌, ℕ, List, IfOk, option_map};
 ghost use Rattle.std.specs.String.{string_bytes};
+ghost use Rattle.svo_words.specs.Values.{text_of};
+ghost use Rattle.svo_words.specs.Kinds.{axis_of, kind_of};
 
+use crate::form_test::is_separate;
 use std::alloc::{AllocError, Global};
 use std::marker::Model;
 
@@ -48,4 +51,40 @@ pub enum AxisWord {
 pub enum KindWord {
     Parallel,
     Pinhole,
+}
+
+/// A value that is a text: not empty, and without a `-` before it.
+pub(crate) fn text_of(value: &str) -> Option<&str>
+    ensures { option_map (λ text. text.now) result ≡ text_of value.now }
+{
+    if is_separate(value.as_bytes()) {
+        Some(value)
+    } else {
+        None
+    }
+}
+
+/// The axis `x`, `y` or `z`.
+#[tactic(auto, unfolding(crate::specs::Kinds::axis_of))]
+pub(crate) fn axis_of(value: &str) -> Option<AxisWord>
+    ensures { result ≡ axis_of value.now }
+{
+    match value {
+        "x" => Some(AxisWord::X),
+        "y" => Some(AxisWord::Y),
+        "z" => Some(AxisWord::Z),
+        _ => None,
+    }
+}
+
+/// The kind of view `parallel` or `pinhole`.
+#[tactic(auto, unfolding(crate::specs::Kinds::kind_of))]
+pub(crate) fn kind_of(value: &str) -> Option<KindWord>
+    ensures { result ≡ kind_of value.now }
+{
+    match value {
+        "parallel" => Some(KindWord::Parallel),
+        "pinhole" => Some(KindWord::Pinhole),
+        _ => None,
+    }
 }

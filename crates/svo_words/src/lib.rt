@@ -6,6 +6,7 @@ mod choices;
 mod commands;
 mod form_test;
 mod kinds;
+mod laws;
 mod matching;
 mod numbers;
 mod values;
@@ -13,6 +14,7 @@ mod values;
 pub use build::BuildWords;
 pub use commands::{Command, WordFault, read_words};
 pub use kinds::{AxisWord, KindWord, Text};
+pub use laws::{one_meaning, one_spelling};
 
 #[cfg(test)]
 mod tests;

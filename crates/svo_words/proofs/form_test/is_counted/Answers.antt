@@ -6,7 +6,7 @@ use Rattle.svo_words.specs.Choices.{Choice}
 use Rattle.svo_words.specs.Settings.{is_counted, may_stand}
 use Rattle.svo_words.specs.Steps.{settings_of}
 use Rattle.svo_words.specs.Names.{passes}
-use Rattle.svo_words.proofs.Tests.{counted_is}
+use Rattle.svo_words.proofs.FormTests.{counted_is}
 use Rattle.svo_words.proofs.form_test.is_counted.Goals as goal
 
 pub returns-in-Some : goal.returns-in-Some

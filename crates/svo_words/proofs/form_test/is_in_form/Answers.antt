@@ -1,7 +1,7 @@
 use Rattle.std.proofs.Common.{map, is_some, ap, sym, ◌∙◌}
 use Rattle.std.specs.String.{string_bytes}
 use Rattle.svo_words.specs.Steps.{settings_of}
-use Rattle.svo_words.proofs.Tests.{all_pass}
+use Rattle.svo_words.proofs.FormTests.{all_pass}
 use Rattle.svo_words.proofs.form_test.is_in_form.Goals as goal
 
 pub returns-then-spelled : goal.returns-then-spelled

@@ -18,7 +18,7 @@ returns-clause-found c =
     let same = c.requires.command in
     IfOk-weaker c.try_get_matches_from.result (HasMatchesOf (app_of c.args.command) words) _ (λ (m : ArgMatches) (has : HasMatchesOf (app_of c.args.command) words m).
     all_found_in choices words (found_of m) c.requires.form (λ simple.
-      (has (ap is_simple same ∙ simple)).0 ∙ ap (λ (a : App). matches_of a words) same))
+    (has (ap is_simple same ∙ simple)).0 ∙ ap (λ (a : App). matches_of a words) same))
     c.try_get_matches_from.ensures.matches
 
 pub returns-clause-memory : goal.returns-clause-memory
