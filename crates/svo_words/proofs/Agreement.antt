@@ -1,21 +1,20 @@
 -- `clap` takes words that are in the form, and finds their settings.
-use Rattle.std.proofs.Common.{◌≡◌, ℕ, ◌+◌, ◌<◌, ◌≤◌, ◌&&◌, ◌||◌, Bool, cond, true, false, not, List, [], ◌∷◌, ◌++◌, map, length, Option, None, Some, option_map, is_some, refl, sym, ap, ap₂, ◌∙◌, arith, subst, inl, inr}
-use Rattle.std.specs.Prelude.{◌==◌, if◌then◌else◌, nat_le, fold, IfSome}
-use Rattle.std.specs.List.{list_all, list_any, count_by}
+use Rattle.std.proofs.Common.{◌≡◌, ℕ, ◌<◌, ◌≤◌, ◌&&◌, ◌||◌, Bool, true, false, not, List, [], ◌∷◌, ◌++◌, map, Option, None, Some, is_some, refl, sym, ap, ap₂, ◌∙◌, arith, subst, inl, inr}
+use Rattle.std.specs.Prelude.{IfSome}
+use Rattle.std.specs.List.{list_all, count_by}
 use Rattle.std.specs.Str.{bytes_eq}
 use Rattle.std.proofs.lemmas.Bool.{cases_Bool}
 use Rattle.std.proofs.lemmas.Bool.Decides.{nat_tests}
-use Rattle.clap.specs.Walk.{Row, Rule, Text, Held, has_row, is_early_multiple, nothing_held, walk, walk_from, finished, rows_after, first_of}
-use Rattle.clap.specs.Simple.{App, built, is_simple, is_buildable, is_ready, is_ready_leaf, matches_of, names_of}
+use Rattle.clap.specs.Walk.{Row, Rule, Text, has_row, is_early_multiple, nothing_held, walk, walk_from, finished, rows_after, first_of}
+use Rattle.clap.specs.Simple.{App, is_simple, is_buildable, is_ready, is_ready_leaf, matches_of, names_of}
 use Rattle.clap.specs.Takes.{takes, built_takes, level_passes, default_passes, is_given}
-use Rattle.clap.specs.Matches.{first_value}
 use Rattle.clap.specs.Walk.{rows_of}
 use Rattle.clap.specs.declared.parser.matches.Found.{Found}
 use Rattle.clap.proofs.WalkLemmas.{first_value-rows}
 use Rattle.clap.proofs.TakesLemmas.{leaf_takes}
 use Rattle.svo_words.specs.Choices.{Choice, choice_of, is_named}
-use Rattle.svo_words.specs.Settings.{Setting, count_of, is_of, is_replaced, may_stand, is_counted, are_counted, value_of}
-use Rattle.svo_words.specs.Grammar.{Spelling, bare, joined, separate, AreAllowed, setting_of, takes_value, Spells}
+use Rattle.svo_words.specs.Settings.{Setting, count_of, is_of, is_replaced, may_stand, is_counted, are_counted}
+use Rattle.svo_words.specs.Grammar.{Spelling, bare, joined, separate, AreAllowed, setting_of, takes_value}
 use Rattle.svo_words.specs.Steps.{settings_of, settings_in, counted as counted_settings}
 use Rattle.svo_words.specs.Names.{passes}
 use Rattle.svo_words.specs.Matching.{app_for, HasFound}

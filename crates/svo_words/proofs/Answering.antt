@@ -1,5 +1,5 @@
 -- From the values of options to a command.
-use Rattle.std.proofs.Common.{◌≡◌, ℕ, zero, suc, ◌+◌, ◌<◌, Bool, true, false, List, [], ◌∷◌, length, drop, Option, None, Some, option_map, Result, Ok, Err, IsErr, IsErrAnd, subst, inl, inr, arith, refl, sym, ap, ◌∙◌}
+use Rattle.std.proofs.Common.{◌≡◌, ℕ, ◌<◌, true, false, List, [], ◌∷◌, length, drop, Option, None, Some, Result, Ok, Err, IsErr, IsErrAnd, subst, inl, inr, arith, refl, sym, ap, ◌∙◌}
 use Rattle.std.specs.Prelude.{slice_index_or, IfSome, codes}
 use Rattle.std.specs.Option.{ok_or}
 use Rattle.std.specs.Str.{bytes_eq}
@@ -7,7 +7,7 @@ use Rattle.std.proofs.lemmas.Bool.{cases_Bool}
 use Rattle.clap.specs.Matches.{found_of, first_value}
 use Rattle.clap.specs.declared.parser.matches.ArgMatches.{ArgMatches}
 use Rattle.svo_words.specs.Choices.{Choice}
-use Rattle.svo_words.specs.Settings.{Setting, are_counted, value_of}
+use Rattle.svo_words.specs.Settings.{Setting, are_counted}
 use Rattle.svo_words.specs.Steps.{settings_of, settings_in, counted}
 use Rattle.svo_words.specs.Names.{passes}
 use Rattle.svo_words.specs.Matching.{HasFound}

@@ -1,8 +1,7 @@
 -- Counting the settings of an option, a word at a time.
-use Rattle.std.proofs.Common.{Bor, ◌≡◌, ℕ, zero, suc, ◌+◌, ◌<◌, ◌≤◌, Bool, true, false, List, [], ◌∷◌, length, map, drop, get_or, drop-cons, Option, None, Some, option_map, arith, refl, sym, ap, ◌∙◌}
+use Rattle.std.proofs.Common.{Bor, ◌≡◌, ℕ, suc, ◌+◌, ◌<◌, ◌≤◌, List, [], ◌∷◌, length, map, drop, get_or, drop-cons, Option, None, Some, option_map, arith, refl, sym, ap, ◌∙◌}
 use Rattle.std.proofs.lemmas.List.{drop-map, length-map}
 use Rattle.std.proofs.Math.ListN.{drop_of_length-le}
-use Rattle.std.specs.Prelude.{if◌then◌else◌}
 use Rattle.std.specs.List.{cons_option}
 use Rattle.svo_words.specs.Choices.{Choice}
 use Rattle.svo_words.specs.Settings.{Setting, count_of}

@@ -1,5 +1,5 @@
 -- Tests of the settings that words spell.
-use Rattle.std.proofs.Common.{◌≡◌, ℕ, Bool, true, false, ◌&&◌, List, [], ◌∷◌, Option, None, Some, option_map, is_some, refl, sym, ap, ap₂, ◌∙◌}
+use Rattle.std.proofs.Common.{◌≡◌, ℕ, Bool, true, false, List, Option, None, Some, option_map, is_some, refl, ap}
 use Rattle.std.specs.List.{list_all}
 use Rattle.svo_words.specs.Choices.{Choice}
 use Rattle.svo_words.specs.Settings.{Setting, count_of, is_replaced, may_stand, is_counted, are_counted}

@@ -1,20 +1,19 @@
 -- Words mean what reading them a word at a time gives.
-use Rattle.std.proofs.Common.{◌≡◌, ℕ, Bool, true, false, List, [], ◌∷◌, Option, None, Some, Result, Ok, Err, inl, inr, refl, sym, ap, ◌∙◌, subst}
-use Rattle.std.specs.Prelude.{find, codes}
+use Rattle.std.proofs.Common.{◌≡◌, ℕ, true, List, [], ◌∷◌, Option, None, Some, Result, Ok, Err, inl, inr, refl, sym, ap, ◌∙◌, subst}
+use Rattle.std.specs.Prelude.{find}
 use Rattle.std.specs.Option.{ok_or}
-use Rattle.std.specs.Str.{bytes_eq}
 use Rattle.std.proofs.lemmas.Bool.{cases_Bool}
 use Rattle.svo_words.specs.Choices.{Choice, are_names}
 use Rattle.svo_words.specs.Settings.{Setting, are_counted, value_of}
 use Rattle.svo_words.specs.Grammar.{Spells, IsInForm}
 use Rattle.svo_words.specs.Steps.{settings_of, settings_in, counted}
 use Rattle.svo_words.specs.Build.{build_choices}
-use Rattle.svo_words.specs.Forms.{CommandForm, commands, build_form, has_name, read_as, read_by, form_of}
+use Rattle.svo_words.specs.Forms.{CommandForm, commands, has_name, read_as, read_by, form_of}
 use Rattle.svo_words.specs.Meaning.{IsAmong, Begins, Sets, Means}
 use Rattle.svo_words.specs.declared.commands.Command.{Command}
 use Rattle.svo_words.specs.declared.commands.WordFault.{WordFault}
 use Rattle.svo_words.specs.declared.commands.WordFault.TheVariants.{Command as NoCommand, Options, Value, Memory}
-use Rattle.svo_words.proofs.Choosing.{equal_bytes, bytes_same}
+use Rattle.svo_words.proofs.Choosing.{equal_bytes}
 use Rattle.svo_words.proofs.Spellings.{both_read, spells_reads}
 
 pub one_list : (choices : List Choice) (words : List (List ℕ)) (a b : List Setting) → are_names choices ≡ true → Spells choices words a → Spells choices words b → a ≡ b

@@ -1,8 +1,8 @@
 -- The rows in which `clap` keeps what was found, one for each setting.
-use Rattle.std.proofs.Common.{◌≡◌, ℕ, ◌+◌, ◌<◌, ◌≤◌, ◌&&◌, ◌||◌, Bool, cond, true, false, not, List, [], ◌∷◌, ◌++◌, map, length, Option, None, Some, option_map, refl, sym, ap, ap₂, ◌∙◌, arith, append-nil, append_assoc}
+use Rattle.std.proofs.Common.{◌≡◌, ◌||◌, Bool, cond, true, false, List, [], ◌∷◌, ◌++◌, map, None, Some, option_map, refl, ap, ◌∙◌, append-nil}
 use Rattle.std.specs.Prelude.{codes, find, option_and_then, slice_get, fold}
 use Rattle.std.specs.Str.{bytes_eq}
-use Rattle.clap.specs.Walk.{Row, Rule, Text, at_row, has_row, more_values, with_values, without, used, first_of, with_default}
+use Rattle.clap.specs.Walk.{Row, Text, at_row, has_row, more_values, with_values, without, used, first_of, with_default}
 use Rattle.clap.specs.Takes.{use_passes}
 use Rattle.clap.specs.declared.builder.value_parser.Reading.TheVariants.{AsWritten}
 use Rattle.clap.specs.declared.parser.matches.ValueSource.TheVariants.{CommandLine}

@@ -1,15 +1,14 @@
 -- The options of a table as `clap` has them once the command is built.
-use Rattle.std.proofs.Common.{◌≡◌, ℕ, ◌&&◌, ◌||◌, Bool, cond, true, false, not, List, [], ◌∷◌, ◌++◌, map, length, Option, None, Some, option_map, is_some, refl, sym, ap, ap₂, ◌∙◌, arith}
-use Rattle.std.specs.Prelude.{if◌then◌else◌, codes, find}
+use Rattle.std.proofs.Common.{◌≡◌, ℕ, ◌&&◌, ◌||◌, Bool, cond, true, false, List, [], ◌∷◌, map, Option, None, Some, option_map, refl, ap, ap₂, ◌∙◌}
+use Rattle.std.specs.Prelude.{if◌then◌else◌, codes}
 use Rattle.std.specs.List.{list_all, list_any}
 use Rattle.std.specs.Str.{bytes_eq}
-use Rattle.clap.specs.Walk.{Rule, Text, arg_by_id, arg_by_long, takes_values, is_early_multiple}
-use Rattle.clap.specs.Simple.{App, Shape, new_shape, filled, filled_from, with_index, index_after, built, is_simple}
-use Rattle.clap.specs.Takes.{default_passes}
+use Rattle.clap.specs.Walk.{Rule, Text, arg_by_id, arg_by_long}
+use Rattle.clap.specs.Simple.{App, Shape, new_shape, filled, filled_from, with_index, index_after, built}
 use Rattle.clap.specs.declared.builder.action.ArgAction.TheVariants.{Set}
 use Rattle.clap.specs.declared.builder.value_parser.ValueParser.TheVariants as vp
-use Rattle.svo_words.specs.Choices.{Choice, choice_of, is_named}
-use Rattle.svo_words.specs.Matching.{rule_for, app_with, app_for}
+use Rattle.svo_words.specs.Choices.{Choice, choice_of}
+use Rattle.svo_words.specs.Matching.{rule_for, app_for}
 
 -- how many values belong to an option, and what stands for its value where it has none
 abbrev pub arity : Choice → ℕ

@@ -1,8 +1,8 @@
 -- The form read a word at a time is the grammar.
-use Rattle.std.proofs.Common.{◌≡◌, ℕ, zero, suc, ◌+◌, ◌<◌, ◌≤◌, ◌&&◌, ◌||◌, Bool, cond, true, false, not, List, [], ◌∷◌, ◌++◌, map, length, take, drop, get_or, Option, None, Some, option_map, is_some, refl, sym, ap, ap₂, ◌∙◌, arith, append_assoc, length-append, subst, inl, inr}
-use Rattle.std.specs.Prelude.{◌==◌, if◌then◌else◌, codes, find, flat_map, nat_lt}
-use Rattle.std.specs.List.{cons_option, list_any, list_all, position, position_or_len, before_first, after_first}
-use Rattle.std.proofs.lemmas.Bool.{cases_Bool, ltb-true, ltb-false, lt-ltb}
+use Rattle.std.proofs.Common.{◌≡◌, ℕ, ◌+◌, ◌&&◌, ◌||◌, Bool, true, false, not, List, [], ◌∷◌, ◌++◌, map, length, take, drop, get_or, Option, None, Some, option_map, refl, sym, ap, ap₂, ◌∙◌, arith, append_assoc, length-append, subst, inl, inr}
+use Rattle.std.specs.Prelude.{◌==◌, if◌then◌else◌, codes, flat_map, nat_lt}
+use Rattle.std.specs.List.{cons_option, position, position_or_len, before_first, after_first}
+use Rattle.std.proofs.lemmas.Bool.{cases_Bool, ltb-true, ltb-false}
 use Rattle.std.proofs.lemmas.Bool.Decides.{nat_tests}
 use Rattle.std.proofs.lemmas.List.{take_all, take_at, drop_at}
 use Rattle.std.proofs.lemmas.List.Sums.{split_at_first}
@@ -11,7 +11,7 @@ use Rattle.clap.specs.Lexer.{long_of, has_byte, name_and_value}
 use Rattle.svo_words.specs.Choices.{Choice, choice_of, is_named, is_name, are_names}
 use Rattle.svo_words.specs.Settings.{Setting}
 use Rattle.svo_words.specs.Grammar.{Spelling, bare, joined, separate, dashed, words_of, setting_of, takes_value, is_nonempty, is_separate, IsAllowed, AreAllowed, Spells}
-use Rattle.svo_words.specs.Steps.{Step, waits, sets, met, met_if, named as named_by, step_of, after_step, settings_from, settings_of}
+use Rattle.svo_words.specs.Steps.{waits, sets, met_if, named as named_by, step_of, after_step, settings_from, settings_of}
 use Rattle.svo_words.proofs.Parts.{any_is_place}
 use Rattle.svo_words.proofs.Choosing.{found_name, found_own, set_then, wait_then}
 

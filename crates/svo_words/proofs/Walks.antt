@@ -1,17 +1,17 @@
 -- `clap` walks over words that spell settings, and finds those.
-use Rattle.std.proofs.Common.{◌≡◌, ℕ, zero, suc, ◌+◌, ◌<◌, ◌≤◌, ◌&&◌, ◌||◌, Bool, cond, true, false, not, List, [], ◌∷◌, ◌++◌, map, length, Option, None, Some, option_map, is_some, refl, sym, ap, ap₂, ◌∙◌, arith, append-nil, append_assoc, subst, inl, inr}
-use Rattle.std.specs.Prelude.{◌==◌, if◌then◌else◌, codes, find, option_and_then, fold, nat_lt}
+use Rattle.std.proofs.Common.{◌≡◌, ◌&&◌, Bool, true, false, not, List, [], ◌∷◌, ◌++◌, map, Option, None, Some, option_map, refl, sym, ap, ap₂, ◌∙◌, append-nil, append_assoc, subst, inl, inr}
+use Rattle.std.specs.Prelude.{◌==◌, if◌then◌else◌, codes, fold}
 use Rattle.std.specs.List.{cons_option}
 use Rattle.std.specs.Str.{bytes_eq}
 use Rattle.std.proofs.lemmas.Bool.{cases_Bool}
 use Rattle.clap.specs.Lexer.{long_of, short_of}
-use Rattle.clap.specs.Walk.{Row, Rule, Text, Held, Walk, Waiting, idle, option, has_row, walked, walk_from, settled, reacted, pushed, arg_by_id, arg_by_long, used}
+use Rattle.clap.specs.Walk.{Row, Rule, Text, Held, Walk, option, has_row, walked, walk_from, settled, reacted, pushed, arg_by_id, arg_by_long, used}
 use Rattle.clap.specs.Simple.{Shape}
-use Rattle.clap.specs.Takes.{walk_passes, turn_passes, settle_passes, use_passes}
-use Rattle.svo_words.specs.Choices.{Choice, choice_of, is_named}
+use Rattle.clap.specs.Takes.{walk_passes, turn_passes, settle_passes}
+use Rattle.svo_words.specs.Choices.{Choice, choice_of}
 use Rattle.svo_words.specs.Settings.{Setting}
 use Rattle.svo_words.specs.Grammar.{is_nonempty, is_separate}
-use Rattle.svo_words.specs.Steps.{Step, waits, sets, met, met_if, named, step_of, after_step, settings_from}
+use Rattle.svo_words.specs.Steps.{waits, sets, met_if, named, step_of, after_step, settings_from}
 use Rattle.svo_words.proofs.Choosing.{bytes_same, found_own, set_then, wait_then}
 use Rattle.svo_words.proofs.Rules.{rule, shape_with, by_long, by_id}
 use Rattle.svo_words.proofs.Rows.{row, AreFresh, valued_use, bare_use}

@@ -1,5 +1,5 @@
 -- The options of `build`, and what their values make of it.
-use Rattle.std.specs.Prelude.{ℕ, List, [], ◌∷◌, true, Option, None, Some, codes}
+use Rattle.std.specs.Prelude.{List, [], ◌∷◌, Option, Some, codes}
 use Rattle.svo_words.specs.Choices.{Choice}
 use Rattle.svo_words.specs.Numbers.{◌>>=◌}
 use Rattle.svo_words.specs.Tables.{required}

@@ -1,5 +1,5 @@
 -- The same form, read a word at a time.
-use Rattle.std.specs.Prelude.{ℕ, Bool, ◌&&◌, if◌then◌else◌, List, [], ◌∷◌, Option, None, Some, option_map, codes}
+use Rattle.std.specs.Prelude.{ℕ, ◌&&◌, if◌then◌else◌, List, [], ◌∷◌, Option, None, Some, option_map, codes}
 use Rattle.std.specs.List.{cons_option}
 use Rattle.clap.specs.Lexer.{long_of}
 use Rattle.svo_words.specs.Choices.{Choice, choice_of}

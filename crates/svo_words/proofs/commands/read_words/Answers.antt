@@ -1,8 +1,6 @@
-use Rattle.std.proofs.Common.{◌≡◌, ◌<◌, ℕ, List, [], ◌∷◌, length, drop, map, arith, inl, inr, sym, ap, subst, ◌∙◌, Result, Err}
-use Rattle.std.specs.Prelude.{slice_index_or, codes}
-use Rattle.std.specs.String.{string_bytes}
+use Rattle.std.proofs.Common.{◌<◌, ℕ, List, length, arith, inl, sym, subst, ◌∙◌, Result}
 use Rattle.std.proofs.lemmas.Bool.Decides.{nat_tests}
-use Rattle.svo_words.specs.Forms.{build_form, read_as, form_of}
+use Rattle.svo_words.specs.Forms.{build_form, read_as}
 use Rattle.svo_words.specs.Reading.{IsRead}
 use Rattle.svo_words.specs.Steps.{settings_in}
 use Rattle.svo_words.specs.declared.commands.Command.{Command}

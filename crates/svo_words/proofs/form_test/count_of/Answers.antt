@@ -1,6 +1,6 @@
-use Rattle.std.proofs.Common.{Bor, ◌≡◌, ℕ, ◌+◌, ◌<◌, ◌≤◌, length, List, [], Option, None, Some, map, drop, option_map, arith, rules, sym, ap, ◌∙◌}
+use Rattle.std.proofs.Common.{Bor, ℕ, ◌+◌, List, map, drop, option_map, rules, sym, ap, ◌∙◌}
 use Rattle.std.specs.String.{string_bytes}
-use Rattle.svo_words.specs.Names.{count_done, step_seen}
+use Rattle.svo_words.specs.Names.{step_seen}
 use Rattle.svo_words.specs.Steps.{settings_of}
 use Rattle.svo_words.specs.Counting.{counted_on}
 use Rattle.svo_words.proofs.Counts.{none_whole, word_lost, word_counts, word_at, count_at_end, no_count_at_end}

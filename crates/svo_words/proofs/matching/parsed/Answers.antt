@@ -7,7 +7,6 @@ use Rattle.clap.specs.Takes.{takes}
 use Rattle.clap.specs.Values.{kind_of}
 use Rattle.clap.specs.declared.error.kind.ErrorKind.TheVariants.{OutOfMemory}
 use Rattle.clap.specs.declared.parser.matches.ArgMatches.{ArgMatches}
-use Rattle.svo_words.specs.Matching.{app_for}
 use Rattle.svo_words.proofs.Agreement.{all_found_in, only_memory}
 use Rattle.svo_words.proofs.matching.parsed.Goals as goal
 
