@@ -7,7 +7,7 @@ use Rattle.std.proofs.lemmas.Bool.{cases_Bool}
 use Rattle.clap.specs.Matches.{found_of, first_value}
 use Rattle.clap.specs.declared.parser.matches.ArgMatches.{ArgMatches}
 use Rattle.svo_words.specs.Choices.{Choice}
-use Rattle.svo_words.specs.Settings.{Setting, are_counted}
+use Rattle.svo_words.specs.Settings.{Setting, are_counted, value_of}
 use Rattle.svo_words.specs.Steps.{settings_of, settings_in, counted}
 use Rattle.svo_words.specs.Names.{passes}
 use Rattle.svo_words.specs.Matching.{HasFound}
@@ -56,14 +56,22 @@ has_values choices words values matches passed seen found =
 
 -- ---- the command that they make
 
-pub fault_read : (form : CommandForm) (o : Option (List Setting)) (fault : WordFault) → AreValues o (Err fault) → IsRead (read_as form o) (Err fault)
-fault_read form None fault e = inl (ap Err e)
-fault_read form (Some settings) fault e = inr (ap Err e)
+made_read : (o : Option Command) (fault : WordFault) → fault ≡ Memory → IsRead (ok_or o Value) (Err fault)
+made_read None fault e = inr (ap Err e)
+made_read (Some command) fault e = inr (ap Err e)
 
-pub value_read : (form : CommandForm) (o : Option (List Setting)) (values : Values) (answer : Option Command) → AreValues o (Ok values)
+fault_read : (form : CommandForm) (o : Option (List Setting)) (fault : WordFault) → AreValues o (Err fault) → IsRead (read_as form o) (Err fault)
+fault_read form None fault e = ap Err e
+fault_read form (Some settings) fault e = made_read (form.reads (value_of settings)) fault e
+
+made_answer : (o p : Option Command) → p ≡ o → IsRead (ok_or o Value) (ok_or p Value)
+made_answer None p e = inl (ap (λ (a : Option Command). ok_or a Value) e)
+made_answer (Some command) p e = inl (ap (λ (a : Option Command). ok_or a Value) e)
+
+value_read : (form : CommandForm) (o : Option (List Setting)) (values : Values) (answer : Option Command) → AreValues o (Ok values)
     → answer ≡ form.reads (values_of values) → IsRead (read_as form o) (ok_or answer Value)
 value_read form None values answer e is = absurd e
-value_read form (Some settings) values answer e is = inl (ap (λ (a : Option Command). ok_or a Value) is ∙ (λ i. ok_or (form.reads (λ name. e name i)) Value))
+value_read form (Some settings) values answer e is = made_answer (form.reads (value_of settings)) answer (is ∙ (λ i. form.reads (λ name. e name i)))
 
 -- a command's reader, whose table is the form's
 pub fault_answer : (form : CommandForm) (choices : List Choice) (words : List (List ℕ)) (fault : WordFault) (result : Result Command WordFault) → choices ≡ form.choices

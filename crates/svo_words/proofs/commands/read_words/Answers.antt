@@ -1,10 +1,11 @@
-use Rattle.std.proofs.Common.{◌<◌, ℕ, List, length, arith, inl, sym, subst, ◌∙◌, Result}
+use Rattle.std.proofs.Common.{◌<◌, ℕ, List, length, arith, refl, sym, subst, ◌∙◌, Result, Err}
 use Rattle.std.proofs.lemmas.Bool.Decides.{nat_tests}
 use Rattle.svo_words.specs.Forms.{build_form, read_as}
 use Rattle.svo_words.specs.Reading.{IsRead}
 use Rattle.svo_words.specs.Steps.{settings_in}
 use Rattle.svo_words.specs.declared.commands.Command.{Command}
 use Rattle.svo_words.specs.declared.commands.WordFault.{WordFault}
+use Rattle.svo_words.specs.declared.commands.WordFault.TheVariants.{Command as NoCommand}
 use Rattle.svo_words.proofs.Answering.{build_named, not_named}
 use Rattle.svo_words.proofs.commands.read_words.Goals as goal
 
@@ -19,4 +20,6 @@ returns-in-build c =
 pub returns-in_default : goal.returns-in_default
 returns-in_default c =
     let some : 0 < length c.args.words.now = grind (arith, nat_tests) in
-    inl (sym (not_named c.args.words.now some (λ same. c.in_default.not-build (c.get.ensures ∙ same))))
+    let none = not_named c.args.words.now some (λ same. c.in_default.not-build (c.get.ensures ∙ same)) in
+    let P : Result Command WordFault → Type 0 = λ wanted. IsRead wanted (Err NoCommand) in
+    subst P (sym none) refl
