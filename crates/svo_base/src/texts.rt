@@ -1,6 +1,6 @@
 //! The words of a command line.
 
-ghost use Rattle.std.specs.Prelude.{◌≡◌, ℕ, ◌<◌, ◌==◌, List, [], ◌∷◌, ◌++◌, length, map, slice_index_or, OnOk, OnErr};
+ghost use Rattle.std.specs.Prelude.{◌≡◌, ℕ, ◌<◌, ◌≤◌, ◌==◌, List, [], ◌∷◌, ◌++◌, length, map, drop, slice_index_or, OnOk, OnErr};
 ghost use Rattle.std.specs.String.{string_bytes};
 
 use std::alloc::{AllocError, Global};
@@ -60,5 +60,13 @@ impl Words {
         ensures { result.now ≡ slice_index_or self.now at [] }
     {
         self.words[at].as_str()
+    }
+
+    /// The words from a place on.
+    pub fn tail(&self, from: usize) -> &[String]
+        requires { from ≤ length self.now }
+        ensures { map string_bytes result.now ≡ drop from self.now }
+    {
+        &self.words[from..]
     }
 }

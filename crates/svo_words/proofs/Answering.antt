@@ -1,0 +1,111 @@
+-- From the values of options to a command.
+use Rattle.std.proofs.Common.{◌≡◌, ℕ, ◌<◌, true, false, List, [], ◌∷◌, length, drop, Option, None, Some, Result, Ok, Err, IsErr, IsErrAnd, subst, inl, inr, arith, refl, sym, ap, ◌∙◌}
+use Rattle.std.specs.Prelude.{slice_index_or, IfSome, codes}
+use Rattle.std.specs.Option.{ok_or}
+use Rattle.std.specs.Str.{bytes_eq}
+use Rattle.std.proofs.lemmas.Bool.{cases_Bool}
+use Rattle.clap.specs.Matches.{found_of, first_value}
+use Rattle.clap.specs.declared.parser.matches.ArgMatches.{ArgMatches}
+use Rattle.svo_words.specs.Choices.{Choice}
+use Rattle.svo_words.specs.Settings.{Setting, are_counted, value_of}
+use Rattle.svo_words.specs.Steps.{settings_of, settings_in, counted}
+use Rattle.svo_words.specs.Names.{passes}
+use Rattle.svo_words.specs.Matching.{HasFound}
+use Rattle.svo_words.specs.Lookups.{Lookup}
+use Rattle.svo_words.specs.Seen.{values_of}
+use Rattle.svo_words.specs.Forms.{CommandForm, commands, build_form, read_as, form_of}
+use Rattle.svo_words.specs.Reading.{IsRead, AreValues}
+use Rattle.svo_words.proofs.Choosing.{equal_bytes}
+use Rattle.svo_words.specs.declared.values.Values.{Values}
+use Rattle.svo_words.specs.declared.commands.Command.{Command}
+use Rattle.svo_words.specs.declared.commands.WordFault.{WordFault}
+use Rattle.svo_words.specs.declared.commands.WordFault.TheVariants.{Options, Value, Memory, Command as NoCommand}
+
+-- ---- the values of the options
+
+not_in_form : (choices : List Choice) (words : List (List ℕ)) → false ≡ passes (are_counted choices) (settings_of choices words) → settings_in choices words ≡ None
+unfolding settings_in
+not_in_form choices words failed = go (settings_of choices words) failed
+  where
+    go : (o : Option (List Setting)) → false ≡ passes (are_counted choices) o → counted choices o ≡ None
+    go None e = refl
+    go (Some settings) e = rw (sym e) refl
+
+in_form : (choices : List Choice) (words : List (List ℕ)) → true ≡ passes (are_counted choices) (settings_of choices words)
+    → (settings : List Setting) × (settings_in choices words ≡ Some settings)
+unfolding settings_in
+in_form choices words passed = go (settings_of choices words) passed
+  where
+    go : (o : Option (List Setting)) → true ≡ passes (are_counted choices) o → (settings : List Setting) × (counted choices o ≡ Some settings)
+    go None e = absurd cc
+    go (Some settings) e = (settings, rw (sym e) refl)
+
+pub no_values : (choices : List Choice) (words : List (List ℕ)) → false ≡ passes (are_counted choices) (settings_of choices words)
+    → AreValues (settings_in choices words) (Err Options)
+no_values choices words failed = rw (not_in_form choices words failed) refl
+
+pub no_memory : (choices : List Choice) (words : List (List ℕ)) → true ≡ passes (are_counted choices) (settings_of choices words)
+    → AreValues (settings_in choices words) (Err Memory)
+no_memory choices words passed = rw (in_form choices words passed).1 refl
+
+pub has_values : (choices : List Choice) (words : List (List ℕ)) (values : Values) (matches : ArgMatches) → true ≡ passes (are_counted choices) (settings_of choices words)
+    → values_of values ≡ first_value (found_of matches) → IfSome (settings_in choices words) (HasFound (found_of matches)) → AreValues (settings_in choices words) (Ok values)
+has_values choices words values matches passed seen found =
+    let one = in_form choices words passed in
+    rw one.1 (λ name. ap (λ (look : Lookup). look name) seen ∙ rw one.1 at found name)
+
+-- ---- the command that they make
+
+made_read : (o : Option Command) (fault : WordFault) → fault ≡ Memory → IsRead (ok_or o Value) (Err fault)
+made_read None fault e = inr (ap Err e)
+made_read (Some command) fault e = inr (ap Err e)
+
+fault_read : (form : CommandForm) (o : Option (List Setting)) (fault : WordFault) → AreValues o (Err fault) → IsRead (read_as form o) (Err fault)
+fault_read form None fault e = ap Err e
+fault_read form (Some settings) fault e = made_read (form.reads (value_of settings)) fault e
+
+made_answer : (o p : Option Command) → p ≡ o → IsRead (ok_or o Value) (ok_or p Value)
+made_answer None p e = inl (ap (λ (a : Option Command). ok_or a Value) e)
+made_answer (Some command) p e = inl (ap (λ (a : Option Command). ok_or a Value) e)
+
+value_read : (form : CommandForm) (o : Option (List Setting)) (values : Values) (answer : Option Command) → AreValues o (Ok values)
+    → answer ≡ form.reads (values_of values) → IsRead (read_as form o) (ok_or answer Value)
+value_read form None values answer e is = absurd e
+value_read form (Some settings) values answer e is = made_answer (form.reads (value_of settings)) answer (is ∙ (λ i. form.reads (λ name. e name i)))
+
+-- a command's reader, whose table is the form's
+pub fault_answer : (form : CommandForm) (choices : List Choice) (words : List (List ℕ)) (fault : WordFault) (result : Result Command WordFault) → choices ≡ form.choices
+    → AreValues (settings_in choices words) (Err fault) → IsErr result × IsErrAnd result (λ e. e ≡ fault) → IsRead (read_as form (settings_in form.choices words)) result
+fault_answer form choices words fault (Ok command) table values passed = absurd (let e = passed.0 in cc)
+fault_answer form choices words fault (Err e) table values passed =
+    let P : List Choice → Type 0 = λ options. IsRead (read_as form (settings_in options words)) (Err e) in
+    let Q : WordFault → Type 0 = λ f. IsRead (read_as form (settings_in choices words)) (Err f) in
+    subst P table (subst Q (sym passed.1) (fault_read form (settings_in choices words) fault values))
+
+pub value_answer : (form : CommandForm) (choices : List Choice) (words : List (List ℕ)) (values : Values) (answer : Option Command) → choices ≡ form.choices
+    → AreValues (settings_in choices words) (Ok values) → answer ≡ form.reads (values_of values)
+    → IsRead (read_as form (settings_in form.choices words)) (ok_or answer Value)
+value_answer form choices words values answer table found is =
+    let P : List Choice → Type 0 = λ options. IsRead (read_as form (settings_in options words)) (ok_or answer Value) in
+    subst P table (value_read form (settings_in choices words) values answer found is)
+
+-- ---- the first word
+
+first_is : (words : List (List ℕ)) → 0 < length words → words ≡ slice_index_or words 0 [] ∷ drop 1 words
+first_is [] some = absurd (omega arith)
+first_is (word ∷ rest) some = refl
+
+-- the words of a command
+pub build_named : (words : List (List ℕ)) → 0 < length words → slice_index_or words 0 [] ≡ codes "build"
+    → form_of words ≡ read_as build_form (settings_in build_form.choices (drop 1 words))
+unfolding form_of commands
+build_named words some name = ap form_of (first_is words some) ∙ ap (λ word. form_of (word ∷ drop 1 words)) name
+
+unlike : (word name : List ℕ) → (word ≡ name → ⊥) → bytes_eq word name ≡ false
+unlike word name differ = elim (cases_Bool (bytes_eq word name)) [ inl same ↦ absurd (differ (equal_bytes word name same)) | inr other ↦ other ]
+
+pub not_named : (words : List (List ℕ)) → 0 < length words → (slice_index_or words 0 [] ≡ codes "build" → ⊥) → form_of words ≡ Err NoCommand
+unfolding form_of commands
+not_named words some build =
+    let no_build = unlike (slice_index_or words 0 []) (codes "build") build in
+    ap form_of (first_is words some) ∙ rw no_build refl

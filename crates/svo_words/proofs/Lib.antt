@@ -1,0 +1,13 @@
+pub mod Agreement
+pub mod Answering
+pub mod Choosing
+pub mod Counts
+pub mod Digits
+pub mod FormTests
+pub mod Meanings
+pub mod NumberLists
+pub mod Parts
+pub mod Rows
+pub mod Rules
+pub mod Spellings
+pub mod Walks

@@ -1,0 +1,41 @@
+-- The commands, and the command that words are.
+use Rattle.std.specs.Prelude.{ℕ, Bool, List, [], ◌∷◌, find, Option, None, Some, option_map, Result, Err, codes}
+use Rattle.std.specs.Option.{ok_or}
+use Rattle.std.specs.Str.{bytes_eq}
+use Rattle.svo_words.specs.Choices.{Choice}
+use Rattle.svo_words.specs.Settings.{Setting, value_of}
+use Rattle.svo_words.specs.Steps.{settings_in}
+use Rattle.svo_words.specs.Lookups.{Lookup}
+use Rattle.svo_words.specs.Build.{build_choices, build_from}
+use Rattle.svo_words.specs.declared.commands.Command.{Command}
+use Rattle.svo_words.specs.declared.commands.Command.TheVariants.{Build}
+use Rattle.svo_words.specs.declared.commands.WordFault.{WordFault}
+use Rattle.svo_words.specs.declared.commands.WordFault.TheVariants.{Command as NoCommand, Options, Value}
+
+-- a command: its name, its options, and what their values make of it
+pub record CommandForm : Type 0 where
+  pub name : List ℕ
+  pub choices : List Choice
+  pub reads : Lookup → Option Command
+
+abbrev pub build_form : CommandForm
+build_form = record { name = codes "build"; choices = build_choices; reads = λ values. option_map Build (build_from values) }
+
+unfoldable pub commands : List CommandForm
+commands = build_form ∷ []
+
+-- the command that the words are, or what is wrong with them
+abbrev pub read_as : CommandForm → Option (List Setting) → Result Command WordFault
+read_as form None = Err Options
+read_as form (Some settings) = ok_or (form.reads (value_of settings)) Value
+
+abbrev pub read_by : Option CommandForm → List (List ℕ) → Result Command WordFault
+read_by None rest = Err NoCommand
+read_by (Some form) rest = read_as form (settings_in form.choices rest)
+
+abbrev pub has_name : List ℕ → CommandForm → Bool
+has_name name form = bytes_eq name form.name
+
+unfoldable pub form_of : List (List ℕ) → Result Command WordFault
+form_of [] = Err NoCommand
+form_of (name ∷ rest) = read_by (find (has_name name) commands) rest

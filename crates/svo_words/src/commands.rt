@@ -1,0 +1,83 @@
+//! The commands of the program.
+
+ghost use Rattle.std.specs.Prelude.{map};
+ghost use Rattle.std.specs.String.{string_bytes};
+ghost use Rattle.svo_words.specs.Build.{build_choices};
+ghost use Rattle.svo_words.specs.Steps.{settings_in};
+ghost use Rattle.svo_words.specs.Forms.{form_of, build_form, read_as};
+ghost use Rattle.svo_words.specs.Reading.{IsRead, AreValues};
+
+use crate::build::{BuildWords, build_choices, build_from};
+use crate::choices::Choice;
+use crate::form_test::is_in_form;
+use crate::matching::matches_of;
+use crate::values::Values;
+use std::alloc::Global;
+use svo_base::Words;
+use thiserror::Error;
+
+/// A command with its values.
+#[derive(Drop)]
+pub enum Command {
+    Build(BuildWords),
+}
+
+/// Why words are no command.
+#[derive(Clone, Copy, Debug, Drop, Error, PartialEq, Eq)]
+pub enum WordFault {
+    /// The first word is missing, or names no command.
+    #[error("command")]
+    Command,
+    /// The words after it are not in the command's form.
+    #[error("options")]
+    Options,
+    /// They are, and the text of a value is not of its kind.
+    #[error("value")]
+    Value,
+    /// Memory ran out.
+    #[error("memory")]
+    Memory,
+}
+
+/// The command that the words are.
+#[tactic(auto, unfolding(crate::specs::Forms::form_of))]
+pub fn read_words(alloc: Global, words: &Words) -> Result<Command, WordFault>
+    ensures { IsRead (form_of words.now) result }
+{
+    if words.is_empty() {
+        return Err(WordFault::Command);
+    }
+    match words.get(0) {
+        "build" => read_build(alloc, words.tail(1)),
+        _ => Err(WordFault::Command),
+    }
+}
+
+/// The command `build` of the words after its name.
+fn read_build(alloc: Global, words: &[String]) -> Result<Command, WordFault>
+    ensures { IsRead (read_as build_form (settings_in build_choices (map string_bytes words.now))) result }
+{
+    let choices = build_choices();
+    let values = read_values(alloc, &choices, words)?;
+    match build_from(&values) {
+        None => Err(WordFault::Value),
+        Some(build) => Ok(Command::Build(build)),
+    }
+}
+
+/// The values of a command's options.
+pub(crate) fn read_values<'a>(
+    alloc: Global,
+    choices: &'a [Choice<'a>],
+    words: &'a [String],
+) -> Result<Values<'a>, WordFault>
+    ensures { AreValues (settings_in choices.entry.now (map string_bytes words.entry.now)) result }
+{
+    if !is_in_form(choices, words) {
+        return Err(WordFault::Options);
+    }
+    match matches_of(alloc, choices, words) {
+        Err(_) => Err(WordFault::Memory),
+        Ok(matches) => Ok(Values::new(matches)),
+    }
+}
