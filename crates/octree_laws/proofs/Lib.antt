@@ -1,3 +1,4 @@
+pub mod FormatOne
 pub mod Frames
 pub mod Images
 pub mod InTurn
@@ -11,5 +12,6 @@ pub mod Masks
 pub mod Rising
 pub mod Sizes
 pub mod Standing
+mod Statements
 pub mod Trees
 pub mod Under

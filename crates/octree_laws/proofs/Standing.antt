@@ -1,11 +1,10 @@
 -- Where the words of an octree's nodes stand among all words.
-use Rattle.std.proofs.Common.{◌≡◌, ℕ, zero, suc, ◌+◌, ◌-◌, ◌*◌, ◌<◌, ◌≤◌, true, List, [], ◌∷◌, ◌++◌, length, get_or, refl, sym, ap, subst, ◌∙◌, arith, add-zero, add_assoc, add-suc}
+use Rattle.std.proofs.Common.{◌≡◌, ℕ, suc, ◌+◌, ◌<◌, ◌≤◌, List, [], ◌∷◌, ◌++◌, length, refl, subst, ◌∙◌, arith, add-zero}
 use Rattle.std.specs.Prelude.{slice_index}
 use Rattle.std.specs.List.{sum_by}
 use Rattle.std.proofs.lemmas.List.{append_assoc, length-append, get_or_at}
 use Rattle.std.proofs.lemmas.List.Sums.{sum_by-append, sum_by-cons}
-use Rattle.octree_specs.specs.Octree.{Leaf, is_nonempty, first_children, children_of, size_of, word_of, in_turn, below_of, words_of}
-use Rattle.octree_laws.proofs.FirstChildren.{children_at}
+use Rattle.octree_specs.specs.Octree.{Leaf, children_of, size_of, word_of, below_of, words_of}
 use Rattle.octree_laws.proofs.InTurn.{in_turn-append}
 use Rattle.octree_laws.proofs.Sizes.{words_below, words_at, length-words_below, length-words_at, length-below_of, size-suc}
 

@@ -1,9 +1,8 @@
 -- The words of an octree lead from each node to its children: the law, and that words lead to one list of leaves.
-use Rattle.std.proofs.Common.{◌≡◌, ℕ, zero, suc, ◌+◌, ◌-◌, ◌*◌, ◌/◌, ◌%◌, ◌^◌, ◌<◌, ◌≤◌, Bool, true, false, List, [], ◌∷◌, ◌++◌, length, refl, sym, ap, subst, ◌∙◌, arith}
-use Rattle.std.specs.Prelude.{◌==◌, slice_index, count_ones}
-use Rattle.std.specs.List.{sum_by}
-use Rattle.octree_specs.specs.Octree.{Leaf, is_nonempty, leaf_word, first_children, children_of, size_of, word_of, words_of, mask_of}
-use Rattle.octree_specs.specs.Walking.{HasMask, HasTree, child_number}
+use Rattle.std.proofs.Common.{◌≡◌, ℕ, zero, suc, ◌+◌, ◌-◌, ◌*◌, ◌<◌, true, List, length, refl, sym, subst, arith}
+use Rattle.std.specs.Prelude.{slice_index}
+use Rattle.octree_specs.specs.Octree.{Leaf, is_nonempty, first_children, word_of, words_of}
+use Rattle.octree_specs.specs.Walking.{HasTree, child_number}
 use Rattle.octree_laws.proofs.FirstChildren.{children_at, later_children}
 use Rattle.octree_laws.proofs.Masks.{mask_front, HasOctants, has_octants}
 use Rattle.octree_laws.proofs.Standing.{base_of, Stands, ChildStands, child_stands, root_stands}
