@@ -1,9 +1,12 @@
+pub mod Fitted
+pub mod Fitting
 pub mod FormatOne
 pub mod Frames
 pub mod Images
 pub mod InTurn
 pub mod Alike
 pub mod Bytes
+pub mod Counting
 pub mod FirstChildren
 pub mod Maps
 pub mod MaskLeaves
