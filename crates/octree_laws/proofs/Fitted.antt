@@ -18,7 +18,7 @@ use Rattle.octree_laws.proofs.Standing.{Holds, base_of}
 
 -- ---- what an answer says of the steps before it
 
-abbrev Answer : Type 0
+abbrev pub Answer : Type 0
 Answer = Result Fitted ℕ
 
 refused : ℕ → Answer
@@ -53,18 +53,18 @@ allowed true n answer all is = (refl, is)
 allowed false n answer all is = absurd (not_refused n all is)
 
 -- of siblings one after another
-record HasFirst (fit : ℕ → ℕ → Answer) (count number at : ℕ) (all : Fitted) : Type 0 where
-  first : Fitted
-  rest : Fitted
-  first_is : fit number at ≡ good first
-  rest_is : fit_each fit count (number + 1) first.next ≡ good rest
-  next : all.next ≡ rest.next
-  cells : all.cells ≡ first.cells + rest.cells
+pub record HasFirst (fit : ℕ → ℕ → Answer) (count number at : ℕ) (all : Fitted) : Type 0 where
+  pub first : Fitted
+  pub rest : Fitted
+  pub first_is : fit number at ≡ good first
+  pub rest_is : fit_each fit count (number + 1) first.next ≡ good rest
+  pub next : all.next ≡ rest.next
+  pub cells : all.cells ≡ first.cells + rest.cells
 
 joined : Fitted → Fitted → Fitted
 joined first rest = record { next = rest.next; cells = first.cells + rest.cells }
 
-each_first : (fit : ℕ → ℕ → Answer) (count number at : ℕ) (all : Fitted) → fit_each fit (suc count) number at ≡ good all → HasFirst fit count number at all
+pub each_first : (fit : ℕ → ℕ → Answer) (count number at : ℕ) (all : Fitted) → fit_each fit (suc count) number at ≡ good all → HasFirst fit count number at all
 unfolding good joined
 each_first fit count number at all is =
     let one : HasStep (fit number at) (λ first. and_then (fit_each fit count (number + 1) first.next) (λ rest. good (joined first rest))) all =
@@ -82,12 +82,12 @@ each_first fit count number at all is =
     }
 
 -- of a leaf
-record HasLeaf (rule : LeafRule) (words : List ℕ) (number at : ℕ) (all : Fitted) : Type 0 where
-  lawful : rule.allows (slice_index words number) ≡ true
-  next : all.next ≡ at
-  cells : all.cells ≡ rule.cells (slice_index words number)
+pub record HasLeaf (rule : LeafRule) (words : List ℕ) (number at : ℕ) (all : Fitted) : Type 0 where
+  pub lawful : rule.allows (slice_index words number) ≡ true
+  pub next : all.next ≡ at
+  pub cells : all.cells ≡ rule.cells (slice_index words number)
 
-leaf_fitted : (rule : LeafRule) (words : List ℕ) (number at : ℕ) (all : Fitted) → fit rule words 0 number at ≡ good all → HasLeaf rule words number at all
+pub leaf_fitted : (rule : LeafRule) (words : List ℕ) (number at : ℕ) (all : Fitted) → fit rule words 0 number at ≡ good all → HasLeaf rule words number at all
 unfolding fit good
 leaf_fitted rule words number at all is =
     let leaf : Fitted = record { next = at; cells = rule.cells (slice_index words number) } in
@@ -96,16 +96,16 @@ leaf_fitted rule words number at all is =
     record { lawful = parts.0; next = ap (λ (f : Fitted). f.next) (sym same); cells = ap (λ (f : Fitted). f.cells) (sym same) }
 
 -- of a parent
-record HasFitted (rule : LeafRule) (words : List ℕ) (height number at : ℕ) (all : Fitted) : Type 0 where
-  below : Fitted
-  below_is : fit_each (fit rule words height) (ones_in (slice_index words number)) (base_in (slice_index words number)) at ≡ good below
-  some : mask_in (slice_index words number) ≡ 0 → ⊥
-  room : base_in (slice_index words number) + ones_in (slice_index words number) ≤ number
-  based : below.next ≡ base_in (slice_index words number)
-  next : all.next ≡ base_in (slice_index words number) + ones_in (slice_index words number)
-  cells : all.cells ≡ below.cells
+pub record HasFitted (rule : LeafRule) (words : List ℕ) (height number at : ℕ) (all : Fitted) : Type 0 where
+  pub below : Fitted
+  pub below_is : fit_each (fit rule words height) (ones_in (slice_index words number)) (base_in (slice_index words number)) at ≡ good below
+  pub some : mask_in (slice_index words number) ≡ 0 → ⊥
+  pub room : base_in (slice_index words number) + ones_in (slice_index words number) ≤ number
+  pub based : below.next ≡ base_in (slice_index words number)
+  pub next : all.next ≡ base_in (slice_index words number) + ones_in (slice_index words number)
+  pub cells : all.cells ≡ below.cells
 
-parent_fitted : (rule : LeafRule) (words : List ℕ) (height number at : ℕ) (all : Fitted) → fit rule words (suc height) number at ≡ good all → HasFitted rule words height number at all
+pub parent_fitted : (rule : LeafRule) (words : List ℕ) (height number at : ℕ) (all : Fitted) → fit rule words (suc height) number at ≡ good all → HasFitted rule words height number at all
 unfolding fit good
 parent_fitted rule words height number at all is =
     let word : ℕ = slice_index words number in
@@ -133,7 +133,7 @@ test_bit : (b : Bool) (n : ℕ) → n < 2 → b ≡ (n == 1) → n ≡ cond b 1 
 test_bit true n small is = eqb-true n 1 (sym is)
 test_bit false n small is = let other : n ≡ 1 → ⊥ = eqb-false n 1 (sym is) in omega (arith, other)
 
-mask_bits : (leaves : List Leaf) (height node word : ℕ) → HasMask leaves height node word → (count : ℕ) → count ≤ 8 → word % 2 ^ count ≡ mask_front leaves height node count
+pub mask_bits : (leaves : List Leaf) (height node word : ℕ) → HasMask leaves height node word → (count : ℕ) → count ≤ 8 → word % 2 ^ count ≡ mask_front leaves height node count
 unfolding bit_of
 mask_bits leaves height node word mask zero few = let one : word % 1 ≡ 0 = omega arith in one ∙ sym (mask_front-zero leaves height node)
 mask_bits leaves height node word mask (suc count) few =
@@ -152,7 +152,7 @@ octants_by_bits leaves height node word mask =
 
 -- ---- words that fit
 
-holds-append : (words : List ℕ) (at : ℕ) (xs ys : List ℕ) → Holds words at xs → Holds words (at + length xs) ys → Holds words at (xs ++ ys)
+pub holds-append : (words : List ℕ) (at : ℕ) (xs ys : List ℕ) → Holds words at xs → Holds words (at + length xs) ys → Holds words at (xs ++ ys)
 unfolding Holds
 holds-append words at [] ys left right = subst (λ n. Holds words n ys) (add-zero at) right
 holds-append words at (x ∷ xs) ys left right =

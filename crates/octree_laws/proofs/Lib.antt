@@ -12,9 +12,12 @@ pub mod Maps
 pub mod MaskLeaves
 pub mod Marks
 pub mod Masks
+pub mod ReadTrees
+pub mod Reading
 pub mod Rising
 pub mod Sizes
 pub mod Standing
 mod Statements
 pub mod Trees
 pub mod Under
+pub mod Verdicts
