@@ -40,9 +40,9 @@ front_children cells height node (suc count) =
     let before : sum_by (count_under cells height) (first_children (face_leaves cells) height node count) ≡ count_front cells height node count = front_children cells height node count in
     elim (cases_Bool (is_nonempty (face_leaves cells) height (8 * node + count))) [
       | inl nonempty ↦
-        rw (← add-one count, one_in (face_leaves cells) height node count nonempty, sum_by_push (count_under cells height) (first_children (face_leaves cells) height node count) (8 * node + count)) (omega (arith, before))
+          rw (← add-one count, one_in (face_leaves cells) height node count nonempty, sum_by_push (count_under cells height) (first_children (face_leaves cells) height node count) (8 * node + count)) (omega (arith, before))
       | inr empty ↦
-        rw (← add-one count, one_out (face_leaves cells) height node count empty) (omega (arith, before, count-empty cells height (8 * node + count) empty))
+          rw (← add-one count, one_out (face_leaves cells) height node count empty) (omega (arith, before, count-empty cells height (8 * node + count) empty))
     ]
 
 -- a number among a run of others is there once
@@ -61,9 +61,9 @@ unfolding bits_front
 bits_in n from zero i below is = absurd (omega arith)
 bits_in n from (suc count) i below is = elim (cases_eq i count) [
   | inl last ↦
-    rw (bits_out n from count (λ j under same. omega (arith, is, same, last)), eq-eqb n (from + count) (omega (arith, is, last))) refl
+      rw (bits_out n from count (λ j under same. omega (arith, is, same, last)), eq-eqb n (from + count) (omega (arith, is, last))) refl
   | inr before ↦
-    rw (bits_in n from count i (omega (arith, before)) is, ne_eqb n (from + count) (λ same. before (omega (arith, is, same)))) refl
+      rw (bits_in n from count i (omega (arith, before)) is, ne_eqb n (from + count) (λ same. before (omega (arith, is, same)))) refl
 ]
 
 bits_of_eight : (n node : ℕ) → bits_front n (8 * node) 8 ≡ cond (n / 8 == node) 1 0
@@ -108,12 +108,12 @@ unfolding Ascends count_under
 count_one low [] ascending code filled = cc
 count_one low (cell ∷ rest) ascending code filled = elim (or_cases (cell.code / 8 ^ 0 == code) (is_nonempty (face_leaves rest) 0 code) filled) [
   | inl here ↦
-    let same : cell.code ≡ code = sym (div-leaf cell.code) ∙ eqb-true (cell.code / 8 ^ 0) code here in
-    rw (here, count_none (cell.code + 1) rest ascending.1 code (omega (arith, same))) refl
-  | inr later ↦ elim (cases_Bool (cell.code / 8 ^ 0 == code)) [
-    | inl here ↦
       let same : cell.code ≡ code = sym (div-leaf cell.code) ∙ eqb-true (cell.code / 8 ^ 0) code here in
       rw (here, count_none (cell.code + 1) rest ascending.1 code (omega (arith, same))) refl
+  | inr later ↦ elim (cases_Bool (cell.code / 8 ^ 0 == code)) [
+    | inl here ↦
+        let same : cell.code ≡ code = sym (div-leaf cell.code) ∙ eqb-true (cell.code / 8 ^ 0) code here in
+        rw (here, count_none (cell.code + 1) rest ascending.1 code (omega (arith, same))) refl
     | inr other ↦ rw (other, count_one (cell.code + 1) rest ascending.1 code later) refl
   ]
 ]

@@ -175,7 +175,7 @@ record AreFitted (rule : LeafRule) (words : List ℕ) (leaves : List Leaf) (heig
 
 module _ (rule : LeafRule) (words : List ℕ) (leaves : List Leaf) (height node number : ℕ) (octants : HasOctants leaves height node (slice_index words number / 256) (slice_index words number))
     (down : (place : ℕ) → place < 8 → is_nonempty leaves height (8 * node + place) ≡ true
-      → (child_number (slice_index words number) place < number) × HasTree words leaves height (8 * node + place) (child_number (slice_index words number) place))
+    → (child_number (slice_index words number) place < number) × HasTree words leaves height (8 * node + place) (child_number (slice_index words number) place))
     (one : (child from n : ℕ) (all : Fitted) → HasTree words leaves height child n → fit rule words height n from ≡ good all → IsFitted rule words leaves height child from n all) where
   -- a child, and those behind it
   cons_fitted : (child from n : ℕ) (nodes : List ℕ) (all : Fitted) (h : HasFirst (fit rule words height) (length nodes) n from all) → IsFitted rule words leaves height child from n h.first
@@ -215,20 +215,20 @@ module _ (rule : LeafRule) (words : List ℕ) (leaves : List Leaf) (height node 
       let parts : later_children leaves height node place (suc rest) ≡ cond (is_nonempty leaves height child) (child ∷ []) [] ++ nodes = later_children-suc leaves height node place rest in
       elim (cases_Bool (is_nonempty leaves height child)) [
         | inl nonempty ↦
-          let here : later_children leaves height node place (suc rest) ≡ child ∷ nodes = parts ∙ rw nonempty refl in
-          let h : HasFirst (fit rule words height) (length nodes) n from all =
-          each_first (fit rule words height) (length nodes) n from all (subst (λ xs. fit_each (fit rule words height) (length xs) n from ≡ good all) here is) in
-          let number_is : child_number word place ≡ n = ap (λ k. word / 256 + k) (octants.before place octant) ∙ sym at_n in
-          let first : IsFitted rule words leaves height child from n h.first =
-          one child from n h.first (subst (HasTree words leaves height child) number_is (down place octant nonempty).1) h.first_is in
-          let more : AreFitted rule words leaves height h.first.next (n + 1) nodes h.rest =
-          later_fitted rest (place + 1) h.first.next (n + 1) h.rest (omega arith)
-          (omega (arith, at_n, ap length (one_in leaves height node place nonempty), length_push (first_children leaves height node place) child)) h.rest_is in
-          subst (λ xs. AreFitted rule words leaves height from n xs all) (sym here) (cons_fitted child from n nodes all h first more)
+            let here : later_children leaves height node place (suc rest) ≡ child ∷ nodes = parts ∙ rw nonempty refl in
+            let h : HasFirst (fit rule words height) (length nodes) n from all =
+            each_first (fit rule words height) (length nodes) n from all (subst (λ xs. fit_each (fit rule words height) (length xs) n from ≡ good all) here is) in
+            let number_is : child_number word place ≡ n = ap (λ k. word / 256 + k) (octants.before place octant) ∙ sym at_n in
+            let first : IsFitted rule words leaves height child from n h.first =
+            one child from n h.first (subst (HasTree words leaves height child) number_is (down place octant nonempty).1) h.first_is in
+            let more : AreFitted rule words leaves height h.first.next (n + 1) nodes h.rest =
+            later_fitted rest (place + 1) h.first.next (n + 1) h.rest (omega arith)
+            (omega (arith, at_n, ap length (one_in leaves height node place nonempty), length_push (first_children leaves height node place) child)) h.rest_is in
+            subst (λ xs. AreFitted rule words leaves height from n xs all) (sym here) (cons_fitted child from n nodes all h first more)
         | inr empty ↦
-          let here : later_children leaves height node place (suc rest) ≡ nodes = parts ∙ rw empty refl in
-          subst (λ xs. AreFitted rule words leaves height from n xs all) (sym here)
-          (later_fitted rest (place + 1) from n all (omega arith) (at_n ∙ ap (λ xs. word / 256 + length xs) (sym (one_out leaves height node place empty)))
+            let here : later_children leaves height node place (suc rest) ≡ nodes = parts ∙ rw empty refl in
+            subst (λ xs. AreFitted rule words leaves height from n xs all) (sym here)
+            (later_fitted rest (place + 1) from n all (omega arith) (at_n ∙ ap (λ xs. word / 256 + length xs) (sym (one_out leaves height node place empty)))
             (subst (λ xs. fit_each (fit rule words height) (length xs) n from ≡ good all) here is))
       ]
 

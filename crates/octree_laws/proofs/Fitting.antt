@@ -49,7 +49,7 @@ module _ (rule : LeafRule) (words : List ℕ) (leaves : List Leaf) (height node 
   -- so do its children, one after another
   pass_each : (front back : List ℕ) → children_of leaves height node ≡ front ++ back
       → fit_each (fit rule words height) (length back) (base_of leaves height node at + length front) (at + sum_by (size_of leaves height) front)
-        ≡ good (fitted (at + sum_by (size_of leaves height) front + sum_by (size_of leaves height) back) (sum_by (weigh rule leaves height) back))
+      ≡ good (fitted (at + sum_by (size_of leaves height) front + sum_by (size_of leaves height) back) (sum_by (weigh rule leaves height) back))
   unfolding good fitted Passes
   pass_each front [] split = ap (λ n. good (fitted n 0)) (sym (add-zero (at + sum_by (size_of leaves height) front)))
   pass_each front (child ∷ back) split =
@@ -66,10 +66,10 @@ module _ (rule : LeafRule) (words : List ℕ) (leaves : List Leaf) (height node 
       let rest : fit_each (fit rule words height) (length back) (base + length front + 1) (from + size child) ≡ good (fitted (from + size child + sum_by size back) (sum_by weight back)) =
       subst (λ n. fit_each (fit rule words height) (length back) n (from + size child) ≡ good (fitted (from + size child + sum_by size back) (sum_by weight back))) next_number
       (subst (λ n. fit_each (fit rule words height) (length back) (base + length (front ++ child ∷ [])) n ≡ good (fitted (n + sum_by size back) (sum_by weight back))) next_from
-        (pass_each (front ++ child ∷ []) back next_split)) in
+      (pass_each (front ++ child ∷ []) back next_split)) in
       rw (first, rest)
       (same_fit (from + size child + sum_by size back) (weight child + sum_by weight back) (from + sum_by size (child ∷ back)) (sum_by weight (child ∷ back))
-        (rw (sum_by-cons size child back) (omega arith)) (sym (sum_by-cons weight child back)))
+      (rw (sum_by-cons size child back) (omega arith)) (sym (sum_by-cons weight child back)))
 
 pub size-zero : (leaves : List Leaf) (node : ℕ) → size_of leaves 0 node ≡ 0
 unfolding size_of

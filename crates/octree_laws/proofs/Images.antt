@@ -75,7 +75,7 @@ face_wide (cell ∷ rest) faces node = elim (cases_Bool (cell.code == node)) [
   | inr other ↦ rw other (face_wide rest (All-tail (λ (c : Cell). c.face ≤ 2 ^ 32 - 2) cell rest faces) node)
 ]
 
-face_marked : (cells : List Cell) → HasMarks (face_leaves cells)
+pub face_marked : (cells : List Cell) → HasMarks (face_leaves cells)
 unfolding HasMarks
 face_marked [] node nonempty = cc
 face_marked (cell ∷ rest) node nonempty = elim (cases_Bool (cell.code == node)) [
@@ -93,7 +93,7 @@ mask_wide levels cells inside node =
     let small : mask_front (face_leaves cells) 0 node 8 < 2 ^ 8 = mask_front-small (face_leaves cells) 0 node 8 (lit≤ tt) in
     rw (leaf_mask levels cells inside node) (omega arith)
 
-mask_marked : (levels : ℕ) (cells : List Cell) → All (λ cell. cell.code < 8 ^ suc levels) cells → HasMarks (mask_leaves levels cells)
+pub mask_marked : (levels : ℕ) (cells : List Cell) → All (λ cell. cell.code < 8 ^ suc levels) cells → HasMarks (mask_leaves levels cells)
 unfolding HasMarks
 mask_marked levels cells inside node nonempty =
     let small : mask_front (face_leaves cells) 0 node 8 < 2 ^ 8 = mask_front-small (face_leaves cells) 0 node 8 (lit≤ tt) in

@@ -23,13 +23,13 @@ some_bit word zero some = absurd (some (let one : word % 1 ≡ 0 = omega arith i
 some_bit word (suc count) some = elim (cases_Bool (has_bit word count)) [
   | inl last ↦ (count, omega arith, last)
   | inr none ↦
-    let split : word % 2 ^ (1 + count) ≡ (word / 2 ^ count % 2 ^ 1) * 2 ^ count + word % 2 ^ count = mod-pow-add word 1 count in
-    let other : word / 2 ^ count % 2 ≡ 1 → ⊥ = eqb-false (word / 2 ^ count % 2) 1 none in
-    let bit : word / 2 ^ count % 2 ≡ 0 = omega (arith, other) in
-    let e : 1 + count ≡ suc count = omega arith in
-    let whole : word % 2 ^ suc count ≡ word % 2 ^ count = ap (λ n. word % 2 ^ n) (sym e) ∙ (split ∙ (ap (λ b. b * 2 ^ count + word % 2 ^ count) bit ∙ omega arith)) in
-    let lower : (place : ℕ) × (place < count) × (has_bit word place ≡ true) = some_bit word count (λ none_lower. some (whole ∙ none_lower)) in
-    (lower.0, omega (arith, lower.1), lower.2)
+      let split : word % 2 ^ (1 + count) ≡ (word / 2 ^ count % 2 ^ 1) * 2 ^ count + word % 2 ^ count = mod-pow-add word 1 count in
+      let other : word / 2 ^ count % 2 ≡ 1 → ⊥ = eqb-false (word / 2 ^ count % 2) 1 none in
+      let bit : word / 2 ^ count % 2 ≡ 0 = omega (arith, other) in
+      let e : 1 + count ≡ suc count = omega arith in
+      let whole : word % 2 ^ suc count ≡ word % 2 ^ count = ap (λ n. word % 2 ^ n) (sym e) ∙ (split ∙ (ap (λ b. b * 2 ^ count + word % 2 ^ count) bit ∙ omega arith)) in
+      let lower : (place : ℕ) × (place < count) × (has_bit word place ≡ true) = some_bit word count (λ none_lower. some (whole ∙ none_lower)) in
+      (lower.0, omega (arith, lower.1), lower.2)
 ]
 
 -- a bit that is set is one of the mask's
@@ -54,7 +54,7 @@ IsSound rule words zero number = rule.allows (slice_index words number) ≡ true
 IsSound rule words (suc height) number =
     (slice_index words number % 256 ≡ 0 → ⊥)
     × ((place : ℕ) → place < 8 → has_bit (slice_index words number) place ≡ true
-      → (child_number (slice_index words number) place < number) × IsSound rule words height (child_number (slice_index words number) place))
+    → (child_number (slice_index words number) place < number) × IsSound rule words height (child_number (slice_index words number) place))
 
 -- each of some siblings fits
 record FitsSome (fit : ℕ → ℕ → Result Fitted ℕ) (number : ℕ) : Type 0 where
@@ -77,12 +77,14 @@ unfolding IsSound
 sound rule words zero number at all is = (leaf_fitted rule words number at all is).lawful
 sound rule words (suc height) number at all is =
     let word : ℕ = slice_index words number in
-    let parent : HasFitted rule words height number at all = parent_fitted rule words height number at all is in
-    (parent.some, λ place octant bit.
-      let rank : count_ones (word % 2 ^ place) < ones_in word = rank_below word place octant bit in
-      let child : FitsSome (fit rule words height) (base_in word + count_ones (word % 2 ^ place)) =
-      each_fits (fit rule words height) (ones_in word) (base_in word) at parent.below parent.below_is (count_ones (word % 2 ^ place)) rank in
-      (omega (arith, rank, parent.room), sound rule words height (child_number word place) child.at child.all child.is))
+    let parent : HasFitted rule words height number at all = parent_fitted rule words height number at all is in (
+      parent.some,
+      λ place octant bit.
+          let rank : count_ones (word % 2 ^ place) < ones_in word = rank_below word place octant bit in
+          let child : FitsSome (fit rule words height) (base_in word + count_ones (word % 2 ^ place)) =
+          each_fits (fit rule words height) (ones_in word) (base_in word) at parent.below parent.below_is (count_ones (word % 2 ^ place)) rank in
+          (omega (arith, rank, parent.room), sound rule words height (child_number word place) child.at child.all child.is),
+    )
 
 -- ---- the cells read
 
@@ -171,14 +173,14 @@ module _ (face : ℕ → ℕ) (words : List ℕ) where
         let child : ℕ = 8 * node + place in
         same_test (is_nonempty (face_leaves cells) height child) (has_bit word place)
         (λ nonempty.
-          let cell : HasCell cells height child limit = some_cell cells height child limit inside nonempty in
-          let seen : AreSame cells (child_cells height number node place) cell.code = under_child height number node place octant agrees cell.code cell.up in
-          true_from_ne_false (has_bit word place) (λ none.
-            both_ways (has_cell cells cell.code) (seen.has ∙ ap (λ part. has_cell part cell.code) (child_no height number node place none)) cell.filled))
+        let cell : HasCell cells height child limit = some_cell cells height child limit inside nonempty in
+        let seen : AreSame cells (child_cells height number node place) cell.code = under_child height number node place octant agrees cell.code cell.up in
+        true_from_ne_false (has_bit word place) (λ none.
+        both_ways (has_cell cells cell.code) (seen.has ∙ ap (λ part. has_cell part cell.code) (child_no height number node place none)) cell.filled))
         (λ bit.
-          let code : HasCode (read_cells face words height (child_number word place) child) height child = some_code height (child_number word place) child (bits.1 place octant bit) in
-          let seen : AreSame cells (read_cells face words height (child_number word place) child) code.code = agrees_below height number node place octant bit agrees code.code code.up in
-          subst (λ n. is_nonempty (face_leaves cells) height n ≡ true) code.up (nonempty_up (face_leaves cells) height code.code (seen.has ∙ code.has)))
+        let code : HasCode (read_cells face words height (child_number word place) child) height child = some_code height (child_number word place) child (bits.1 place octant bit) in
+        let seen : AreSame cells (read_cells face words height (child_number word place) child) code.code = agrees_below height number node place octant bit agrees code.code code.up in
+        subst (λ n. is_nonempty (face_leaves cells) height n ≡ true) code.up (nonempty_up (face_leaves cells) height code.code (seen.has ∙ code.has)))
 
 -- ---- trees
 
@@ -209,12 +211,16 @@ tree_two words cells limit inside zero number node is_sound agrees =
 tree_two words cells limit inside (suc height) number node is_sound agrees =
     let word : ℕ = slice_index words number in
     let mask : HasMask (face_leaves cells) height node word =
-    read_mask (face_in words) words cells limit inside height number node (bits_two words (suc height) number is_sound) agrees in
-    (mask, λ place octant nonempty.
-      let bit : has_bit word place ≡ true = sym (mask place octant) ∙ nonempty in
-      let child : (child_number word place < number) × IsSound face_rule words height (child_number word place) = is_sound.1 place octant bit in
-      (child.0, tree_two words cells limit inside height (child_number word place) (8 * node + place) child.1
-        (agrees_below (face_in words) words cells limit inside height number node place octant bit agrees)))
+    read_mask (face_in words) words cells limit inside height number node (bits_two words (suc height) number is_sound) agrees in (
+      mask,
+      λ place octant nonempty.
+          let bit : has_bit word place ≡ true = sym (mask place octant) ∙ nonempty in
+          let child : (child_number word place < number) × IsSound face_rule words height (child_number word place) = is_sound.1 place octant bit in (
+            child.0,
+            tree_two words cells limit inside height (child_number word place) (8 * node + place) child.1
+                (agrees_below (face_in words) words cells limit inside height number node place octant bit agrees),
+          ),
+    )
 
 pub tree_one : (words : List ℕ) (levels : ℕ) (cells : List Cell) → All (λ cell. cell.code < 8 ^ suc levels) cells → (height number node : ℕ) → IsSound mask_rule words height number
     → Agrees no_face words cells (suc height) number node → HasTree words (mask_leaves levels cells) height node number
@@ -227,13 +233,16 @@ tree_one words levels cells inside zero number node is_sound agrees =
 tree_one words levels cells inside (suc height) number node is_sound agrees =
     let word : ℕ = slice_index words number in
     let mask : HasMask (face_leaves cells) (suc height) node word =
-    read_mask no_face words cells (8 ^ suc levels) inside (suc height) number node (bits_one words (suc height) number is_sound) agrees in
-    ((λ place octant. nonempty_same levels cells inside height (8 * node + place) ∙ mask place octant),
-    λ place octant nonempty.
-      let bit : has_bit word place ≡ true = sym (mask place octant) ∙ (sym (nonempty_same levels cells inside height (8 * node + place)) ∙ nonempty) in
-      let child : (child_number word place < number) × IsSound mask_rule words height (child_number word place) = is_sound.1 place octant bit in
-      (child.0, tree_one words levels cells inside height (child_number word place) (8 * node + place) child.1
-        (agrees_below no_face words cells (8 ^ suc levels) inside (suc height) number node place octant bit agrees)))
+    read_mask no_face words cells (8 ^ suc levels) inside (suc height) number node (bits_one words (suc height) number is_sound) agrees in (
+      (λ place octant. nonempty_same levels cells inside height (8 * node + place) ∙ mask place octant),
+      λ place octant nonempty.
+          let bit : has_bit word place ≡ true = sym (mask place octant) ∙ (sym (nonempty_same levels cells inside height (8 * node + place)) ∙ nonempty) in
+          let child : (child_number word place < number) × IsSound mask_rule words height (child_number word place) = is_sound.1 place octant bit in (
+            child.0,
+            tree_one words levels cells inside height (child_number word place) (8 * node + place) child.1
+                (agrees_below no_face words cells (8 ^ suc levels) inside (suc height) number node place octant bit agrees),
+          ),
+    )
 
 -- ---- faces of the cells read
 

@@ -105,7 +105,7 @@ read_run face words (suc height) number node =
     let high : (8 * node + 0 + 8) * 8 ^ height ≡ (node + 1) * 8 ^ suc height = omega (arith, ap (λ p. node * p) power, power) in
     subst (λ n. IsRun n ((node + 1) * 8 ^ suc height) (each_place (read_cells face words height) (slice_index words number) node 0 8)) low
     (subst (λ n. IsRun ((8 * node + 0) * 8 ^ height) n (each_place (read_cells face words height) (slice_index words number) node 0 8)) high
-      (places_run (read_cells face words height) height (slice_index words number) node (read_run face words height) 8 0))
+    (places_run (read_cells face words height) height (slice_index words number) node (read_run face words height) 8 0))
 
 -- ---- what a list of cells says of a code
 
@@ -188,16 +188,16 @@ module _ (read : ℕ → ℕ → List Cell) (height word node : ℕ) (runs : (nu
       let tail : List Cell = each_place read word node (from + 1) rest in
       elim (cases_eq from place) [
         | inl same ↦
-          let low : (8 * node + place + 1) * 8 ^ height ≡ (8 * node + (from + 1)) * 8 ^ height = ap (λ n. n * 8 ^ height) (omega (arith, same)) in
-          let none : has_cell tail code ≡ false =
-          not_below ((8 * node + (from + 1)) * 8 ^ height) ((8 * node + (from + 1) + rest) * 8 ^ height) tail (places_run read height word node runs rest (from + 1)) code (omega (arith, range.1, low)) in
-          subst (λ p. AreSame (piece from ++ tail) (piece p) code) same (same_left (piece from) tail code none)
+            let low : (8 * node + place + 1) * 8 ^ height ≡ (8 * node + (from + 1)) * 8 ^ height = ap (λ n. n * 8 ^ height) (omega (arith, same)) in
+            let none : has_cell tail code ≡ false =
+            not_below ((8 * node + (from + 1)) * 8 ^ height) ((8 * node + (from + 1) + rest) * 8 ^ height) tail (places_run read height word node runs rest (from + 1)) code (omega (arith, range.1, low)) in
+            subst (λ p. AreSame (piece from ++ tail) (piece p) code) same (same_left (piece from) tail code none)
         | inr apart ↦
-          let step : (8 * node + from + 1) * 8 ^ height ≤ (8 * node + place) * 8 ^ height = mul-le-mul_right (8 ^ height) (omega (arith, apart)) in
-          let none : has_cell (piece from) code ≡ false =
-          not_above ((8 * node + from) * 8 ^ height) ((8 * node + from + 1) * 8 ^ height) (piece from) (piece_run read height word node runs from) code (omega (arith, range.0, step)) in
-          same_twice (piece from ++ tail) tail (piece place) code (same_right (piece from) tail code none)
-          (places_at rest (from + 1) place code (omega (arith, apart)) (omega arith) up)
+            let step : (8 * node + from + 1) * 8 ^ height ≤ (8 * node + place) * 8 ^ height = mul-le-mul_right (8 ^ height) (omega (arith, apart)) in
+            let none : has_cell (piece from) code ≡ false =
+            not_above ((8 * node + from) * 8 ^ height) ((8 * node + from + 1) * 8 ^ height) (piece from) (piece_run read height word node runs from) code (omega (arith, range.0, step)) in
+            same_twice (piece from ++ tail) tail (piece place) code (same_right (piece from) tail code none)
+            (places_at rest (from + 1) place code (omega (arith, apart)) (omega arith) up)
       ]
 
 pub child_same : (face : ℕ → ℕ) (words : List ℕ) (height number node place code : ℕ) → place < 8 → code / 8 ^ height ≡ 8 * node + place

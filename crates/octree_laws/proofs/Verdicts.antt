@@ -3,7 +3,8 @@ use Rattle.std.proofs.Common.{◌≡◌, ℕ, zero, suc, ◌+◌, ◌-◌, ◌*�
 use Rattle.std.specs.Prelude.{◌==◌, ◌&&◌, not, nat_le, count_ones, slice_index, All}
 use Rattle.std.specs.List.{sum_by, filter, range_with_len}
 use Rattle.std.specs.List.Sorted.{IsStrictlyIncreasing}
-use Rattle.std.proofs.lemmas.Bool.{cases_Bool, cases_eq, both_ways, eqb-true, eqb-false, eq-eqb, ne_eqb, and_parts, and_from, and_left, and_right, false_from_ne_true, le-leb, or_cases, not_from_false}
+use Rattle.std.proofs.Math.Nat.{div-eq_of_lt}
+use Rattle.std.proofs.lemmas.Bool.{cases_Bool, cases_eq, both_ways, eqb-true, eqb-false, eq-eqb, ne_eqb, and_parts, and_from, and_left, and_right, false_from_ne_true, le-leb, or_cases, or_left, not_from_false}
 use Rattle.std.proofs.lemmas.List.{length_push, same_lists, get_or_default}
 use Rattle.std.proofs.lemmas.List.Elements.{All-head, All-tail, All-nil, All-cons, All-weaker}
 use Rattle.std.proofs.lemmas.List.Sums.{sum_by-cons}
@@ -12,11 +13,13 @@ use Rattle.octree_specs.specs.Checking.{LeafRule, Fitted, ones_in, mask_rule, fa
 use Rattle.octree_specs.specs.Formats.{IsFormat, AreCellsIn, StandFor, face_leaves, mask_leaves, levels_of, leaves_of, file_words}
 use Rattle.octree_specs.specs.Octree.{Leaf, is_nonempty, leaf_word, first_children, mask_of, size_of, word_of, in_turn, below_of, words_of}
 use Rattle.octree_specs.specs.Walking.{HasTree}
+use Rattle.octree_laws.specs.Laws.{StandForMany}
 use Rattle.octree_laws.proofs.Counting.{count_under, count_children, count_one, count_all}
 use Rattle.octree_laws.proofs.Fitted.{IsFitted, is_fitted, holds-append}
 use Rattle.octree_laws.proofs.Fitting.{weigh, good, fitted, AreLawful, Passes, passes}
 use Rattle.octree_laws.proofs.Maps.{words_one, words_two, some_words}
 use Rattle.octree_laws.proofs.MaskLeaves.{no_children, nonempty_same, nonempty_up, leaf_mask}
+use Rattle.octree_laws.proofs.Images.{face_marked, mask_marked}
 use Rattle.octree_laws.proofs.InTurn.{sum_by-ones}
 use Rattle.octree_laws.proofs.Marks.{IsMarked, HasMarks, all_nonempty, some_mask, word_marked}
 use Rattle.octree_laws.proofs.Masks.{mask_front, mask_front-small, ones_front}
@@ -41,8 +44,8 @@ holds_whole : (words xs : List ℕ) → Holds words 0 xs → length xs ≡ lengt
 holds_whole words xs holds long =
     same_lists words xs (sym long)
     (λ k d within.
-      let inside : k < length xs = omega (arith, long, within) in
-      get_or_default words k d 0 within ∙ (ap (λ n. get_or words n 0) (sym (zero-add k)) ∙ (holds_at words 0 xs holds k inside ∙ get_or_default xs k 0 d inside)))
+    let inside : k < length xs = omega (arith, long, within) in
+    get_or_default words k d 0 within ∙ (ap (λ n. get_or words n 0) (sym (zero-add k)) ∙ (holds_at words 0 xs holds k inside ∙ get_or_default xs k 0 d inside)))
 
 -- words that begin with those below the root, and end with the root's, are the octree's
 words_are : (words : List ℕ) (leaves : List Leaf) (levels number : ℕ) → length words ≡ number + 1 → number ≡ size_of leaves levels 0 → Holds words 0 (below_of leaves levels 0 0)
@@ -107,11 +110,11 @@ lawful_two [] faces node nonempty = cc
 lawful_two (cell ∷ rest) faces node nonempty = elim (cases_Bool (cell.code == node)) [
   | inl here ↦ rw here (face_allowed cell.face (All-head (λ (c : Cell). c.face ≤ 2 ^ 32 - 2) cell rest faces))
   | inr other ↦
-    let same : (cell.code / 8 ^ 0 == node) ≡ (cell.code == node) = ap (λ n. n == node) (div-leaf cell.code) in
-    elim (or_cases (cell.code / 8 ^ 0 == node) (is_nonempty (face_leaves rest) 0 node) nonempty) [
-      | inl first ↦ absurd (both_ways (cell.code == node) other (sym same ∙ first))
-      | inr later ↦ rw other (lawful_two rest (All-tail (λ (c : Cell). c.face ≤ 2 ^ 32 - 2) cell rest faces) node later)
-    ]
+      let same : (cell.code / 8 ^ 0 == node) ≡ (cell.code == node) = ap (λ n. n == node) (div-leaf cell.code) in
+      elim (or_cases (cell.code / 8 ^ 0 == node) (is_nonempty (face_leaves rest) 0 node) nonempty) [
+        | inl first ↦ absurd (both_ways (cell.code == node) other (sym same ∙ first))
+        | inr later ↦ rw other (lawful_two rest (All-tail (λ (c : Cell). c.face ≤ 2 ^ 32 - 2) cell rest faces) node later)
+      ]
 ]
 
 lawful_one : (levels : ℕ) (cells : List Cell) → All (λ cell. cell.code < 8 ^ suc levels) cells → AreLawful mask_rule (mask_leaves levels cells)
@@ -171,12 +174,12 @@ root_passes rule leaves levels number cells words lawful nonempty are long weigh
 not_empty : (leaves : List Leaf) (levels number : ℕ) (words : List ℕ) → HasMarks leaves → is_nonempty leaves levels 0 ≡ true → words ≡ words_of leaves levels → length words ≡ number + 1 → is_empty_tree words ≡ false
 not_empty leaves levels number words marks nonempty are long =
     false_from_ne_true (is_empty_tree words) (λ empty.
-      let parts : ((length words == 1) ≡ true) × ((slice_index words 0 == 0) ≡ true) = and_parts (length words == 1) (slice_index words 0 == 0) empty in
-      let first : number ≡ 0 = omega (arith, eqb-true (length words) 1 parts.0) in
-      let stands : Stands words leaves levels 0 0 number =
-      subst (λ ws. Stands ws leaves levels 0 0 number) (sym are) (root_stands leaves levels number (sym (ap length are) ∙ long)) in
-      let root : word_of leaves levels 0 0 ≡ 0 = sym stands.own ∙ (ap (slice_index words) first ∙ eqb-true (slice_index words 0) 0 parts.1) in
-      word_marked leaves marks levels 0 0 nonempty (ap (λ w. w % 256) root))
+    let parts : ((length words == 1) ≡ true) × ((slice_index words 0 == 0) ≡ true) = and_parts (length words == 1) (slice_index words 0 == 0) empty in
+    let first : number ≡ 0 = omega (arith, eqb-true (length words) 1 parts.0) in
+    let stands : Stands words leaves levels 0 0 number =
+    subst (λ ws. Stands ws leaves levels 0 0 number) (sym are) (root_stands leaves levels number (sym (ap length are) ∙ long)) in
+    let root : word_of leaves levels 0 0 ≡ 0 = sym stands.own ∙ (ap (slice_index words) first ∙ eqb-true (slice_index words 0) 0 parts.1) in
+    word_marked leaves marks levels 0 0 nonempty (ap (λ w. w % 256) root))
 
 -- ---- no cells
 
@@ -219,14 +222,6 @@ no_cells format depth known = record {
   };
   faceless = λ one. All-nil (λ (cell : Cell). cell.face ≡ 0);
 }
-
--- ---- the verdict
-
--- the words stand for so many cells
-pub record StandForMany (format depth : ℕ) (words : List ℕ) (count : ℕ) : Type 0 where
-  pub cells : List Cell
-  pub stand : StandFor format depth words cells
-  pub count_is : length cells ≡ count
 
 -- ---- cells read from words that are accepted
 
@@ -311,3 +306,102 @@ read_one levels number count words long accepted =
       };
       count_is = sym (count_all depth cells read.inside) ∙ (sym (weigh_one levels cells read.inside read.rises levels 0 nonempty) ∙ (sym fitted_root.cells ∙ accepted.count));
     }
+
+holds_one : (words : List ℕ) (at word : ℕ) → slice_index words at ≡ word → Holds words at (word ∷ [])
+unfolding Holds
+holds_one words at word is = (is, tt)
+
+-- the one word 0
+one_zero : (words : List ℕ) → is_empty_tree words ≡ true → words ≡ 0 ∷ []
+one_zero words empty =
+    let parts : ((length words == 1) ≡ true) × ((slice_index words 0 == 0) ≡ true) = and_parts (length words == 1) (slice_index words 0 == 0) empty in
+    let long : length words ≡ 1 = eqb-true (length words) 1 parts.0 in
+    let word : slice_index words 0 ≡ 0 = eqb-true (slice_index words 0) 0 parts.1 in
+    holds_whole words (0 ∷ []) (holds_one words 0 0 word) (sym long)
+
+pub stand_if_accepted : (format levels count : ℕ) (words : List ℕ) → IsFormat format → 0 < length words → refused_in format (suc levels) words count ≡ None → StandForMany format (suc levels) words count
+unfolding refused_in
+stand_if_accepted format levels count words known some accepted =
+    let number : ℕ = length words - 1 in
+    let long : length words ≡ number + 1 = omega arith in
+    let nothing : Option ℕ = None in
+    elim (cases_Bool (is_empty_tree words)) [
+      | inl empty ↦
+          let counted : cond (count == 0) None (Some 1) ≡ None = rw empty at accepted in
+          let none : ((count == 0) ≡ true) × (nothing ≡ None) = none_test (count == 0) 1 nothing counted in
+          record {
+            cells = [];
+            stand = record { cells_are = no_cells format (suc levels) known; words_are = one_zero words empty ∙ sym (empty_file format levels known) };
+            count_is = sym (eqb-true count 0 none.0);
+          }
+      | inr several ↦
+          let root : IsAccepted (length words) count (fit (rule_of format) words (levels_of format (suc levels)) number 0) =
+          if_accepted (length words) count (fit (rule_of format) words (levels_of format (suc levels)) number 0) (rw several at accepted) in
+          elim known [
+            | inl one ↦
+                let down : suc levels - 1 ≡ levels = omega arith in
+                let root_one : IsAccepted (length words) count (fit mask_rule words (suc levels - 1) number 0) =
+                subst (λ f. IsAccepted (length words) count (fit (rule_of f) words (levels_of f (suc levels)) number 0)) one root in
+                subst (λ f. StandForMany f (suc levels) words count) (sym one)
+                (read_one levels number count words long (subst (λ l. IsAccepted (length words) count (fit mask_rule words l number 0)) down root_one))
+            | inr two ↦
+                subst (λ f. StandForMany f (suc levels) words count) (sym two)
+                (read_two levels number count words long (subst (λ f. IsAccepted (length words) count (fit (rule_of f) words (levels_of f (suc levels)) number 0)) two root))
+          ]
+    ]
+
+-- ---- words that stand for cells are accepted
+
+root_filled : (depth : ℕ) (cell : Cell) (rest : List Cell) → All (λ cell. cell.code < 8 ^ depth) (cell ∷ rest) → is_nonempty (face_leaves (cell ∷ rest)) depth 0 ≡ true
+root_filled depth cell rest inside =
+    or_left (cell.code / 8 ^ depth == 0) (is_nonempty (face_leaves rest) depth 0)
+    (eq-eqb (cell.code / 8 ^ depth) 0 (div-eq_of_lt (All-head (λ (c : Cell). c.code < 8 ^ depth) cell rest inside)))
+
+-- what the checker says of the words of an octree with leaves
+verdict_with : (rule : LeafRule) (leaves : List Leaf) (levels number count : ℕ) (words : List ℕ) → AreLawful rule leaves → HasMarks leaves → is_nonempty leaves levels 0 ≡ true → words ≡ words_of leaves levels
+    → length words ≡ number + 1 → weigh rule leaves levels 0 ≡ count
+    → cond (is_empty_tree words) (cond (count == 0) None (Some 1)) (refused_by (length words) count (fit rule words levels (length words - 1) 0)) ≡ None
+verdict_with rule leaves levels number count words lawful marks nonempty are long weight =
+    rw (not_empty leaves levels number words marks nonempty are long)
+    (accepted_root (length words) count (fit rule words levels (length words - 1) 0) (root_passes rule leaves levels number count words lawful nonempty are long weight))
+
+pass_two : (levels : ℕ) (words : List ℕ) (cell : Cell) (rest : List Cell) → StandFor 2 (suc levels) words (cell ∷ rest) → refused_in 2 (suc levels) words (length (cell ∷ rest)) ≡ None
+unfolding refused_in
+pass_two levels words cell rest stand =
+    let cells : List Cell = cell ∷ rest in
+    let depth : ℕ = suc levels in
+    let are : words ≡ words_of (face_leaves cells) depth = stand.words_are ∙ words_two depth cells in
+    let map_is : AreFacedCells depth cells = stand.cells_are.map in
+    let nonempty : is_nonempty (face_leaves cells) depth 0 ≡ true = root_filled depth cell rest map_is.inside in
+    let rises : Ascends 0 (codes_of cells) = ascends 0 (codes_of cells) map_is.ascending (λ some. omega arith) in
+    verdict_with face_rule (face_leaves cells) depth (size_of (face_leaves cells) depth 0) (length cells) words (lawful_two cells map_is.faces) (face_marked cells) nonempty are
+    (ap length are ∙ length-words_of (face_leaves cells) depth)
+    (weigh_two cells rises depth 0 nonempty ∙ count_all depth cells map_is.inside)
+
+pass_one : (levels : ℕ) (words : List ℕ) (cell : Cell) (rest : List Cell) → StandFor 1 (suc levels) words (cell ∷ rest) → refused_in 1 (suc levels) words (length (cell ∷ rest)) ≡ None
+unfolding refused_in
+pass_one levels words cell rest stand =
+    let cells : List Cell = cell ∷ rest in
+    let leaves : List Leaf = mask_leaves levels cells in
+    let are : words ≡ words_of leaves levels = stand.words_are ∙ words_one levels cells in
+    let map_is : AreFacedCells (suc levels) cells = stand.cells_are.map in
+    let nonempty : is_nonempty leaves levels 0 ≡ true = nonempty_same levels cells map_is.inside levels 0 ∙ root_filled (suc levels) cell rest map_is.inside in
+    let rises : Ascends 0 (codes_of cells) = ascends 0 (codes_of cells) map_is.ascending (λ some. omega arith) in
+    let down : suc levels - 1 ≡ levels = omega arith in
+    subst (λ l. cond (is_empty_tree words) (cond (length cells == 0) None (Some 1)) (refused_by (length words) (length cells) (fit mask_rule words l (length words - 1) 0)) ≡ None) (sym down)
+    (verdict_with mask_rule leaves levels (size_of leaves levels 0) (length cells) words (lawful_one levels cells map_is.inside) (mask_marked levels cells map_is.inside) nonempty are
+    (ap length are ∙ length-words_of leaves levels)
+    (weigh_one levels cells map_is.inside rises levels 0 nonempty ∙ count_all (suc levels) cells map_is.inside))
+
+pass_empty : (format levels : ℕ) (words : List ℕ) → words ≡ 0 ∷ [] → refused_in format (suc levels) words 0 ≡ None
+unfolding refused_in
+pass_empty format levels words are = subst (λ ws. cond (is_empty_tree ws) (cond (0 == 0) None (Some 1)) (refused_by (length ws) 0 (fit (rule_of format) ws (levels_of format (suc levels)) (length ws - 1) 0)) ≡ None) (sym are) refl
+
+pub accepted_if_stand : (format levels : ℕ) (words : List ℕ) (cells : List Cell) → StandFor format (suc levels) words cells → refused_in format (suc levels) words (length cells) ≡ None
+accepted_if_stand format levels words [] stand = pass_empty format levels words (stand.words_are ∙ empty_file format levels stand.cells_are.known)
+accepted_if_stand format levels words (cell ∷ rest) stand = elim stand.cells_are.known [
+  | inl one ↦
+      subst (λ f. refused_in f (suc levels) words (length (cell ∷ rest)) ≡ None) (sym one) (pass_one levels words cell rest (subst (λ f. StandFor f (suc levels) words (cell ∷ rest)) one stand))
+  | inr two ↦
+      subst (λ f. refused_in f (suc levels) words (length (cell ∷ rest)) ≡ None) (sym two) (pass_two levels words cell rest (subst (λ f. StandFor f (suc levels) words (cell ∷ rest)) two stand))
+]

@@ -1,8 +1,9 @@
 -- Laws of the words and the files of octrees.
-use Rattle.std.specs.Prelude.{◌≡◌, ℕ, ◌+◌, ◌≤◌, List, [], ◌++◌, length}
+use Rattle.std.specs.Prelude.{◌≡◌, ◌↔◌, ℕ, ◌+◌, ◌<◌, ◌≤◌, List, [], ◌++◌, length, None}
 use Rattle.svo_base.specs.GridShape.{GridShape}
 use Rattle.octree_specs.specs.Cells.{Cell, codes_of, AreFacedCells}
-use Rattle.octree_specs.specs.Formats.{StandFor, face_leaves, file_words}
+use Rattle.octree_specs.specs.Checking.{refused_in}
+use Rattle.octree_specs.specs.Formats.{IsFormat, StandFor, face_leaves, file_words}
 use Rattle.octree_specs.specs.NodeFile as plain_file
 use Rattle.octree_specs.specs.OctreeFile.{IsFramed, IsFileOf, IsNodeFile, image_of}
 use Rattle.octree_specs.specs.Walking.{HasTree, HasMasks}
@@ -35,3 +36,16 @@ AreNoFronts = (front rest : List ℕ) → IsNodeFile front → IsNodeFile (front
 abbrev pub SetsHaveFormatOne : Type 0
 SetsHaveFormatOne = (grid : GridShape) (cells : List Cell) → 1 ≤ grid.depth → AreFacedCells grid.depth cells
     → plain_file.image_of grid (codes_of cells) ≡ image_of 1 grid cells
+
+-- the words stand for so many cells
+pub record StandForMany (format depth : ℕ) (words : List ℕ) (count : ℕ) : Type 0 where
+  pub cells : List Cell
+  pub stand : StandFor format depth words cells
+  pub count_is : length cells ≡ count
+
+-- the checker refuses no number exactly where the words stand for some cells, as many as it is told, and so exactly where the framed bytes are a node file
+pub record AreAcceptedExactly : Type 0 where
+  pub words : (format depth count : ℕ) (words : List ℕ) → IsFormat format → 1 ≤ depth → 0 < length words
+      → (refused_in format depth words count ≡ None) ↔ StandForMany format depth words count
+  pub bytes : (format : ℕ) (grid : GridShape) (words : List ℕ) (count : ℕ) (bytes : List ℕ) → IsFramed format grid words count bytes
+      → (refused_in format grid.depth words count ≡ None) ↔ IsNodeFile bytes
