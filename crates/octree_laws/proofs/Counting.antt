@@ -1,14 +1,14 @@
 -- How many cells lie under a node: what a walk over the octree counts.
-use Rattle.std.proofs.Common.{◌≡◌, ℕ, zero, suc, ◌+◌, ◌-◌, ◌*◌, ◌/◌, ◌%◌, ◌^◌, ◌<◌, ◌≤◌, Bool, true, false, cond, List, [], ◌∷◌, ◌++◌, length, refl, sym, ap, subst, ◌∙◌, inl, inr, arith, add-one, lit≤}
+use Rattle.std.proofs.Common.{◌≡◌, ℕ, zero, suc, ◌+◌, ◌*◌, ◌/◌, ◌%◌, ◌^◌, ◌<◌, true, false, cond, List, [], ◌∷◌, length, refl, sym, ◌∙◌, inl, inr, arith, add-one}
 use Rattle.std.specs.Prelude.{◌==◌, All}
 use Rattle.std.specs.List.{sum_by}
 use Rattle.std.proofs.Math.Nat.{div-eq_of_lt}
 use Rattle.std.proofs.lemmas.Bool.{cases_Bool, cases_eq, eqb-true, eq-eqb, ne_eqb, or_cases, or_parts}
 use Rattle.std.proofs.lemmas.List.Elements.{All-head, All-tail}
-use Rattle.std.proofs.lemmas.List.Sums.{sum_by-cons, sum_by-append, sum_by_push}
+use Rattle.std.proofs.lemmas.List.Sums.{sum_by_push}
 use Rattle.octree_specs.specs.Cells.{Cell, codes_of}
 use Rattle.octree_specs.specs.Formats.{face_leaves}
-use Rattle.octree_specs.specs.Octree.{Leaf, is_nonempty, first_children}
+use Rattle.octree_specs.specs.Octree.{is_nonempty, first_children}
 use Rattle.octree_laws.proofs.FirstChildren.{first_children-zero, one_in, one_out}
 use Rattle.octree_laws.proofs.Rising.{Ascends}
 use Rattle.octree_laws.proofs.Under.{div-up, div-leaf}

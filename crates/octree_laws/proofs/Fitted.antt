@@ -1,20 +1,19 @@
 -- Words that fit, and that have the tree of some leaves, are the words of that octree.
-use Rattle.std.proofs.Common.{◌≡◌, ℕ, zero, suc, ◌+◌, ◌-◌, ◌*◌, ◌/◌, ◌%◌, ◌^◌, ◌<◌, ◌≤◌, Bool, true, false, cond, List, [], ◌∷◌, ◌++◌, length, get_or, Result, Ok, Err, refl, sym, ap, subst, ◌∙◌, inl, inr, arith, add-zero, add-one, lit≤}
-use Rattle.std.specs.Prelude.{◌==◌, ◌||◌, nat_lt, slice_index, count_ones}
+use Rattle.std.proofs.Common.{◌≡◌, ℕ, zero, suc, ◌+◌, ◌*◌, ◌/◌, ◌%◌, ◌^◌, ◌<◌, ◌≤◌, Bool, true, false, cond, List, [], ◌∷◌, ◌++◌, length, Result, Ok, Err, refl, sym, ap, subst, ◌∙◌, inl, inr, arith, add-zero, add-one, lit≤}
+use Rattle.std.specs.Prelude.{◌==◌, ◌||◌, nat_lt, slice_index}
 use Rattle.std.specs.List.{sum_by}
-use Rattle.std.proofs.Math.Nat.{pow-suc}
 use Rattle.std.proofs.lemmas.Bool.{cases_Bool, eqb-true, eqb-false, ltb-false, or_parts}
-use Rattle.std.proofs.lemmas.List.{length-append, length_push, same_lists}
+use Rattle.std.proofs.lemmas.List.{length_push}
 use Rattle.std.proofs.lemmas.List.Sums.{sum_by-cons}
 use Rattle.std.proofs.lemmas.Nat.{mod-pow-add}
 use Rattle.octree_specs.specs.Checking.{LeafRule, Fitted, mask_in, ones_in, base_in, and_then, fit_each, fit_parent, fit}
-use Rattle.octree_specs.specs.Octree.{Leaf, is_nonempty, leaf_word, first_children, children_of, mask_of, size_of, word_of, in_turn, below_of, words_of}
+use Rattle.octree_specs.specs.Octree.{Leaf, is_nonempty, first_children, children_of, size_of, word_of, below_of}
 use Rattle.octree_specs.specs.Walking.{HasMask, HasTree, child_number}
 use Rattle.octree_laws.proofs.FirstChildren.{first_children-zero, first_children-add, one_in, one_out, later_children, later_children-suc}
 use Rattle.octree_laws.proofs.Fitting.{good, weigh, size-zero}
 use Rattle.octree_laws.proofs.Masks.{bit_of, mask_front, mask_front-zero, mask_front_more, HasOctants, has_octants}
 use Rattle.octree_laws.proofs.Sizes.{words_below, words_at, length-words_below, length-below_of, size-suc}
-use Rattle.octree_laws.proofs.Standing.{Holds, base_of}
+use Rattle.octree_laws.proofs.Standing.{Holds}
 
 -- ---- what an answer says of the steps before it
 

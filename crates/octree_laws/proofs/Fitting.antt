@@ -1,13 +1,13 @@
 -- The words of an octree fit: the checker's recursion accepts them.
-use Rattle.std.proofs.Common.{◌≡◌, ℕ, zero, suc, ◌+◌, ◌-◌, ◌*◌, ◌/◌, ◌%◌, ◌^◌, ◌<◌, ◌≤◌, Bool, true, false, cond, List, [], ◌∷◌, ◌++◌, length, Result, Ok, Err, refl, sym, ap, subst, ◌∙◌, arith, add-zero}
-use Rattle.std.specs.Prelude.{◌==◌, ◌||◌, nat_lt, slice_index, All}
+use Rattle.std.proofs.Common.{◌≡◌, ℕ, zero, suc, ◌+◌, true, false, List, [], ◌∷◌, ◌++◌, length, Result, Ok, refl, sym, ap, subst, ◌∙◌, arith, add-zero}
+use Rattle.std.specs.Prelude.{◌==◌, ◌||◌, nat_lt, slice_index}
 use Rattle.std.specs.List.{sum_by, Contains}
-use Rattle.std.proofs.lemmas.Bool.{eq-eqb, ne_eqb, le-ltb, or_from, cond-true, cond-false}
+use Rattle.std.proofs.lemmas.Bool.{eq-eqb, ne_eqb, le-ltb, or_from}
 use Rattle.std.proofs.lemmas.List.{append_assoc, length-append}
 use Rattle.std.proofs.lemmas.List.Elements.{All-contains, Contains-append_right}
 use Rattle.std.proofs.lemmas.List.Sums.{sum_by-cons, sum_by-append}
-use Rattle.octree_specs.specs.Checking.{LeafRule, Fitted, mask_in, ones_in, base_in, and_then, fit_each, fit_parent, fit}
-use Rattle.octree_specs.specs.Octree.{Leaf, is_nonempty, leaf_word, first_children, children_of, size_of, word_of}
+use Rattle.octree_specs.specs.Checking.{LeafRule, Fitted, mask_in, ones_in, base_in, fit_each, fit}
+use Rattle.octree_specs.specs.Octree.{Leaf, is_nonempty, leaf_word, children_of, size_of, word_of}
 use Rattle.octree_laws.proofs.Marks.{all_nonempty, some_mask}
 use Rattle.octree_laws.proofs.Masks.{HasOctants}
 use Rattle.octree_laws.proofs.Sizes.{size-suc}

@@ -1,18 +1,17 @@
 -- Words that fit have the tree of the cells read from them.
-use Rattle.std.proofs.Common.{◌≡◌, ℕ, zero, suc, ◌+◌, ◌-◌, ◌*◌, ◌/◌, ◌%◌, ◌^◌, ◌<◌, ◌≤◌, Bool, true, false, cond, List, [], ◌∷◌, ◌++◌, length, Result, Ok, Err, refl, sym, ap, subst, ◌∙◌, inl, inr, arith, lit<, lit≤, add-one, add-zero}
-use Rattle.std.specs.Prelude.{◌==◌, ◌&&◌, not, nat_le, slice_index, count_ones, All}
-use Rattle.std.proofs.lemmas.Bool.{cases_Bool, cases_eq, both_ways, eqb-true, eqb-false, eq-eqb, leb-true, and_parts, or_left, not-true, true_from_ne_false, cond-true}
+use Rattle.std.proofs.Common.{◌≡◌, ℕ, zero, suc, ◌+◌, ◌-◌, ◌*◌, ◌/◌, ◌%◌, ◌^◌, ◌<◌, ◌≤◌, true, false, List, [], Result, refl, sym, ap, subst, ◌∙◌, inl, inr, arith, lit≤, add-zero}
+use Rattle.std.specs.Prelude.{◌==◌, not, nat_le, slice_index, count_ones, All}
+use Rattle.std.proofs.lemmas.Bool.{cases_Bool, both_ways, eqb-true, eqb-false, eq-eqb, leb-true, and_parts, or_left, not-true, true_from_ne_false, cond-true}
 use Rattle.std.proofs.lemmas.List.Elements.{All-nil, All-cons, All-append}
 use Rattle.std.proofs.lemmas.Nat.{mod-pow-add, ones_cat, zero_from_ones, mod_below, pow_pos}
-use Rattle.octree_specs.specs.Cells.{Cell, codes_of}
+use Rattle.octree_specs.specs.Cells.{Cell}
 use Rattle.octree_specs.specs.Checking.{LeafRule, Fitted, mask_rule, face_rule, mask_in, ones_in, base_in, fit_each, fit}
 use Rattle.octree_specs.specs.Formats.{face_leaves, mask_leaves}
-use Rattle.octree_specs.specs.Octree.{Leaf, is_nonempty, leaf_word}
+use Rattle.octree_specs.specs.Octree.{is_nonempty}
 use Rattle.octree_specs.specs.Walking.{HasMask, HasTree, child_number}
-use Rattle.octree_laws.proofs.Fitted.{HasLeaf, HasFitted, HasFirst, leaf_fitted, parent_fitted, each_first, octants_by_bits, mask_bits}
+use Rattle.octree_laws.proofs.Fitted.{HasFitted, HasFirst, leaf_fitted, parent_fitted, each_first, mask_bits}
 use Rattle.octree_laws.proofs.Fitting.{good}
 use Rattle.octree_laws.proofs.MaskLeaves.{same_test, nonempty_up, HasCell, some_cell, nonempty_same, leaf_mask}
-use Rattle.octree_laws.proofs.Masks.{mask_front}
 use Rattle.octree_laws.proofs.Reading.{has_bit, each_place, read_cells, read_run, has_cell, AreSame, same_twice, piece, child_same}
 use Rattle.octree_laws.proofs.Under.{div-up, div-leaf}
 

@@ -1,18 +1,18 @@
 -- The cells to which words lead, read from the words alone.
-use Rattle.std.proofs.Common.{◌≡◌, ℕ, zero, suc, ◌+◌, ◌-◌, ◌*◌, ◌/◌, ◌%◌, ◌^◌, ◌<◌, ◌≤◌, Bool, true, false, cond, List, [], ◌∷◌, ◌++◌, length, map, refl, sym, ap, subst, ◌∙◌, inl, inr, arith, lit<, lit≤, add-one}
-use Rattle.std.specs.Prelude.{◌==◌, ◌||◌, slice_index, count_ones, All}
+use Rattle.std.proofs.Common.{◌≡◌, ℕ, zero, suc, ◌+◌, ◌*◌, ◌/◌, ◌%◌, ◌^◌, ◌<◌, ◌≤◌, Bool, true, false, cond, List, [], ◌∷◌, ◌++◌, refl, sym, ap, subst, ◌∙◌, inl, inr, arith, lit<}
+use Rattle.std.specs.Prelude.{◌==◌, ◌||◌, slice_index, All}
 use Rattle.std.proofs.Math.Nat.{pow-suc, one-le-pow, mul-le-mul_right, div-eq_of_lt-le}
-use Rattle.std.proofs.lemmas.Bool.{cases_Bool, cases_eq, both_ways, eqb-true, eq-eqb, ne_eqb, or_from, or_parts, false_from_ne_true, true_from_ne_false, cond-true, cond-false}
+use Rattle.std.proofs.lemmas.Bool.{cases_eq, or_parts, false_from_ne_true, cond-false}
 use Rattle.std.proofs.lemmas.List.{map-append}
 use Rattle.std.proofs.lemmas.List.Elements.{All-nil, All-cons, All-head, All-tail, All-append, All-weaker, All-contains}
-use Rattle.std.proofs.lemmas.Nat.{div-add-mod', mod_below, mod-pow-add}
+use Rattle.std.proofs.lemmas.Nat.{div-add-mod', mod_below}
 use Rattle.octree_specs.specs.Cells.{Cell, codes_of}
 use Rattle.octree_specs.specs.Formats.{face_leaves}
-use Rattle.octree_specs.specs.Octree.{Leaf, is_nonempty, leaf_word}
+use Rattle.octree_specs.specs.Octree.{is_nonempty, leaf_word}
 use Rattle.octree_specs.specs.Walking.{child_number}
 use Rattle.octree_laws.proofs.Maps.{filled_in}
 use Rattle.octree_laws.proofs.Rising.{Ascends, above_low}
-use Rattle.octree_laws.proofs.Under.{div-up, div-leaf}
+use Rattle.octree_laws.proofs.Under.{div-leaf}
 
 -- the word has the bit of this place
 abbrev pub has_bit : ℕ → ℕ → Bool

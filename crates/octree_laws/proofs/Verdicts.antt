@@ -1,29 +1,28 @@
 -- The checker refuses nothing exactly where the words stand for some cells, as many as it is told.
-use Rattle.std.proofs.Common.{◌≡◌, ℕ, zero, suc, ◌+◌, ◌-◌, ◌*◌, ◌/◌, ◌%◌, ◌^◌, ◌<◌, ◌≤◌, Bool, true, false, cond, List, [], ◌∷◌, ◌++◌, length, get_or, map, Option, None, Some, Result, Ok, Err, refl, sym, ap, subst, ◌∙◌, inl, inr, arith, lit<, lit≤, add-one, add-zero, zero-add}
-use Rattle.std.specs.Prelude.{◌==◌, ◌&&◌, not, nat_le, count_ones, slice_index, All}
+use Rattle.std.proofs.Common.{◌≡◌, ℕ, zero, suc, ◌+◌, ◌-◌, ◌*◌, ◌/◌, ◌%◌, ◌^◌, ◌<◌, ◌≤◌, Bool, true, false, cond, List, [], ◌∷◌, ◌++◌, length, get_or, map, Option, None, Some, Result, Ok, Err, refl, sym, ap, subst, ◌∙◌, inl, inr, arith, lit≤, add-zero, zero-add}
+use Rattle.std.specs.Prelude.{◌==◌, not, nat_le, count_ones, slice_index, All}
 use Rattle.std.specs.List.{sum_by, filter, range_with_len}
-use Rattle.std.specs.List.Sorted.{IsStrictlyIncreasing}
 use Rattle.std.proofs.Math.Nat.{div-eq_of_lt}
-use Rattle.std.proofs.lemmas.Bool.{cases_Bool, cases_eq, both_ways, eqb-true, eqb-false, eq-eqb, ne_eqb, and_parts, and_from, and_left, and_right, false_from_ne_true, le-leb, or_cases, or_left, not_from_false}
+use Rattle.std.proofs.lemmas.Bool.{cases_Bool, both_ways, eqb-true, eq-eqb, ne_eqb, and_parts, and_from, false_from_ne_true, le-leb, or_cases, or_left, not_from_false}
 use Rattle.std.proofs.lemmas.List.{length_push, same_lists, get_or_default}
 use Rattle.std.proofs.lemmas.List.Elements.{All-head, All-tail, All-nil, All-cons, All-weaker}
 use Rattle.std.proofs.lemmas.List.Sums.{sum_by-cons}
 use Rattle.octree_specs.specs.Cells.{Cell, codes_of, AreFacedCells}
 use Rattle.octree_specs.specs.Checking.{LeafRule, Fitted, ones_in, mask_rule, face_rule, rule_of, fit, is_empty_tree, refused_by, refused_in}
-use Rattle.octree_specs.specs.Formats.{IsFormat, AreCellsIn, StandFor, face_leaves, mask_leaves, levels_of, leaves_of, file_words}
+use Rattle.octree_specs.specs.Formats.{IsFormat, AreCellsIn, StandFor, face_leaves, mask_leaves, levels_of, file_words}
 use Rattle.octree_specs.specs.Octree.{Leaf, is_nonempty, leaf_word, first_children, mask_of, size_of, word_of, in_turn, below_of, words_of}
 use Rattle.octree_specs.specs.Walking.{HasTree}
 use Rattle.octree_laws.specs.Laws.{StandForMany}
 use Rattle.octree_laws.proofs.Counting.{count_under, count_children, count_one, count_all}
 use Rattle.octree_laws.proofs.Fitted.{IsFitted, is_fitted, holds-append}
 use Rattle.octree_laws.proofs.Fitting.{weigh, good, fitted, AreLawful, Passes, passes}
-use Rattle.octree_laws.proofs.Maps.{words_one, words_two, some_words}
+use Rattle.octree_laws.proofs.Maps.{words_one, words_two}
 use Rattle.octree_laws.proofs.MaskLeaves.{no_children, nonempty_same, nonempty_up, leaf_mask}
 use Rattle.octree_laws.proofs.Images.{face_marked, mask_marked}
 use Rattle.octree_laws.proofs.InTurn.{sum_by-ones}
-use Rattle.octree_laws.proofs.Marks.{IsMarked, HasMarks, all_nonempty, some_mask, word_marked}
+use Rattle.octree_laws.proofs.Marks.{HasMarks, all_nonempty, some_mask, word_marked}
 use Rattle.octree_laws.proofs.Masks.{mask_front, mask_front-small, ones_front}
-use Rattle.octree_laws.proofs.Reading.{read_cells, read_run, IsRun, AreSame}
+use Rattle.octree_laws.proofs.Reading.{read_cells, read_run, IsRun}
 use Rattle.octree_laws.proofs.ReadTrees.{HasBits, HasCode, IsSound, sound, bits_one, bits_two, some_code, Agrees, face_in, no_face, tree_one, tree_two, faces_two, faces_none}
 use Rattle.octree_laws.proofs.Rising.{Ascends, ascends, increasing}
 use Rattle.octree_laws.proofs.Sizes.{length-below_of, length-words_of}
