@@ -1,11 +1,11 @@
 -- Words lead to one list of leaves: two octrees to which the same words lead have the same leaves.
-use Rattle.std.proofs.Common.{◌≡◌, ℕ, zero, suc, ◌+◌, ◌*◌, ◌/◌, ◌%◌, ◌^◌, ◌<◌, Bool, true, false, List, [], ◌∷◌, refl, sym, ap, subst, ◌∙◌, inl, inr, arith}
-use Rattle.std.specs.Prelude.{◌==◌, slice_index}
+use Rattle.std.proofs.Common.{◌≡◌, ℕ, zero, suc, ◌+◌, ◌*◌, ◌/◌, ◌%◌, ◌^◌, ◌<◌, true, false, List, sym, subst, ◌∙◌, inl, inr, arith}
+use Rattle.std.specs.Prelude.{slice_index}
 use Rattle.std.proofs.lemmas.Bool.{cases_Bool}
 use Rattle.octree_specs.specs.Cells.{Cell}
 use Rattle.octree_specs.specs.Formats.{face_leaves}
 use Rattle.octree_specs.specs.Octree.{Leaf, is_nonempty, leaf_word}
-use Rattle.octree_specs.specs.Walking.{HasMask, HasTree, HasMasks, child_number}
+use Rattle.octree_specs.specs.Walking.{HasTree, HasMasks, child_number}
 use Rattle.octree_laws.proofs.Under.{div-up, div-leaf, empty_below}
 
 -- both have this leaf, with one word, or neither has it

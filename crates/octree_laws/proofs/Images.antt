@@ -1,18 +1,18 @@
 -- Node files are framed, each is the file of one list of cells, and none is a proper front of another.
-use Rattle.std.proofs.Common.{◌≡◌, ℕ, zero, suc, ◌+◌, ◌-◌, ◌*◌, ◌/◌, ◌%◌, ◌^◌, ◌<◌, ◌≤◌, Bool, true, false, cond, List, [], ◌∷◌, ◌++◌, length, get_or, refl, sym, ap, subst, ◌∙◌, inl, inr, arith, lit≤, lit<}
+use Rattle.std.proofs.Common.{◌≡◌, ℕ, zero, suc, ◌+◌, ◌-◌, ◌*◌, ◌/◌, ◌%◌, ◌^◌, ◌<◌, ◌≤◌, true, false, cond, List, [], ◌∷◌, ◌++◌, length, get_or, refl, sym, ap, subst, ◌∙◌, inl, inr, arith, lit≤, lit<}
 use Rattle.std.specs.Prelude.{◌==◌, All}
-use Rattle.std.specs.Int.{w64, to_le_bytes}
 use Rattle.std.specs.List.{sum_by}
-use Rattle.std.proofs.Math.Nat.{pow-le-pow_right, pow-suc}
-use Rattle.std.proofs.lemmas.Bool.{cases_Bool, cases_eq, eq-eqb, ne_eqb, eqb-true, cond-true, cond-false, or_cases}
-use Rattle.std.proofs.lemmas.List.{append_assoc, length-append, length-map, get_or_append_left, get_or-append-add, nil_from_length}
+use Rattle.std.proofs.Math.Nat.{pow-le-pow_right}
+use Rattle.std.proofs.lemmas.Bool.{cases_Bool, cases_eq, or_cases}
+use Rattle.std.proofs.lemmas.List.{append_assoc, length-append, length-map, get_or-append-add, nil_from_length}
 use Rattle.std.proofs.lemmas.List.Elements.{All-nil, All-cons, All-head, All-tail, All-append, All-push, All-map, All-get_or}
 use Rattle.std.proofs.lemmas.List.Sums.{sum_by-cons}
 use Rattle.svo_base.specs.GridShape.{GridShape, IsGrid}
 use Rattle.octree_specs.specs.Cells.{Cell, codes_of, AreFacedCells}
-use Rattle.octree_specs.specs.Formats.{IsFormat, AreCellsIn, StandFor, face_leaves, mask_leaves, leaves_of, levels_of, file_words}
-use Rattle.octree_specs.specs.Octree.{Leaf, is_nonempty, leaf_word, first_children, children_of, mask_of, size_of, word_of, in_turn, below_of, words_of}
+use Rattle.octree_specs.specs.Formats.{AreCellsIn, face_leaves, mask_leaves, leaves_of, levels_of, file_words}
+use Rattle.octree_specs.specs.Octree.{Leaf, is_nonempty, leaf_word, children_of, size_of, word_of, in_turn, below_of, words_of}
 use Rattle.octree_specs.specs.OctreeFile.{header_of, trailer_of, frame_of, image_of, IsFramed, IsFileOf, IsNodeFile}
+use Rattle.octree_laws.specs.Laws.{AreOneFile}
 use Rattle.octree_laws.proofs.Bytes.{bytes_of, length-bytes_of, first_byte}
 use Rattle.octree_laws.proofs.Frames.{AreOneFrame, one_frame, length-frame, length-header}
 use Rattle.octree_laws.proofs.Maps.{one_map, some_words, words_one, words_two}
@@ -75,7 +75,7 @@ face_wide (cell ∷ rest) faces node = elim (cases_Bool (cell.code == node)) [
   | inr other ↦ rw other (face_wide rest (All-tail (λ (c : Cell). c.face ≤ 2 ^ 32 - 2) cell rest faces) node)
 ]
 
-face_marked : (cells : List Cell) → HasMarks (face_leaves cells)
+pub face_marked : (cells : List Cell) → HasMarks (face_leaves cells)
 unfolding HasMarks
 face_marked [] node nonempty = cc
 face_marked (cell ∷ rest) node nonempty = elim (cases_Bool (cell.code == node)) [
@@ -93,7 +93,7 @@ mask_wide levels cells inside node =
     let small : mask_front (face_leaves cells) 0 node 8 < 2 ^ 8 = mask_front-small (face_leaves cells) 0 node 8 (lit≤ tt) in
     rw (leaf_mask levels cells inside node) (omega arith)
 
-mask_marked : (levels : ℕ) (cells : List Cell) → All (λ cell. cell.code < 8 ^ suc levels) cells → HasMarks (mask_leaves levels cells)
+pub mask_marked : (levels : ℕ) (cells : List Cell) → All (λ cell. cell.code < 8 ^ suc levels) cells → HasMarks (mask_leaves levels cells)
 unfolding HasMarks
 mask_marked levels cells inside node nonempty =
     let small : mask_front (face_leaves cells) 0 node 8 < 2 ^ 8 = mask_front-small (face_leaves cells) 0 node 8 (lit≤ tt) in
@@ -144,7 +144,7 @@ cells-few depth cells are =
 
 -- ---- files
 
-at_depth : (depth : ℕ) → 1 ≤ depth → (levels : ℕ) × (depth ≡ suc levels)
+pub at_depth : (depth : ℕ) → 1 ≤ depth → (levels : ℕ) × (depth ≡ suc levels)
 at_depth zero some = absurd (omega arith)
 at_depth (suc levels) some = (levels, refl)
 
@@ -169,11 +169,6 @@ file_framed format grid cells bytes file =
     }
 
 -- bytes are the file of one grid and one list of cells, in one format
-pub record AreOneFile (f g : ℕ) (grid other : GridShape) (xs ys : List Cell) : Type 0 where
-  pub formats : f ≡ g
-  pub grids : grid ≡ other
-  pub cells : xs ≡ ys
-
 pub one_file : (bytes : List ℕ) (f g : ℕ) (grid other : GridShape) (xs ys : List Cell) → IsFileOf f grid xs bytes → IsFileOf g other ys bytes → AreOneFile f g grid other xs ys
 one_file bytes f g grid other xs ys x y =
     let one : AreOneFrame f g grid other (file_words f grid.depth xs) (file_words g other.depth ys) (length xs) (length ys) =

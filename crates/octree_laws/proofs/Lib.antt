@@ -1,15 +1,23 @@
+pub mod Fitted
+pub mod Fitting
+pub mod FormatOne
 pub mod Frames
 pub mod Images
 pub mod InTurn
 pub mod Alike
 pub mod Bytes
+pub mod Counting
 pub mod FirstChildren
 pub mod Maps
 pub mod MaskLeaves
 pub mod Marks
 pub mod Masks
+pub mod ReadTrees
+pub mod Reading
 pub mod Rising
 pub mod Sizes
 pub mod Standing
+mod Statements
 pub mod Trees
 pub mod Under
+pub mod Verdicts

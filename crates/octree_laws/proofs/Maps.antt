@@ -1,16 +1,16 @@
 -- Words stand for one list of cells at most.
-use Rattle.std.proofs.Common.{◌≡◌, ℕ, zero, suc, ◌+◌, ◌-◌, ◌*◌, ◌/◌, ◌^◌, ◌<◌, ◌≤◌, Bool, true, false, cond, List, [], ◌∷◌, length, get_or, map, refl, sym, ap, subst, ◌∙◌, inl, inr, arith, lit≤}
-use Rattle.std.specs.Prelude.{◌==◌, ◌⊎◌, All, Any}
-use Rattle.std.specs.List.{Contains, list_any}
+use Rattle.std.proofs.Common.{◌≡◌, ℕ, suc, ◌+◌, ◌-◌, ◌*◌, ◌/◌, ◌^◌, ◌<◌, true, List, [], ◌∷◌, length, refl, sym, ap, subst, ◌∙◌, inl, inr, arith}
+use Rattle.std.specs.Prelude.{◌==◌, All}
+use Rattle.std.specs.List.{Contains}
 use Rattle.std.proofs.Math.Nat.{div-eq_of_lt}
 use Rattle.std.proofs.lemmas.Bool.{eqb-true, eq-eqb, ne_eqb, cond-true, cond-false, or_cases, or_left, or_right}
 use Rattle.std.proofs.lemmas.List.Elements.{All-map, All-head, All-tail, All-weaker, All-contains_itself, All-contains}
 use Rattle.octree_specs.specs.Cells.{Cell, codes_of, AreFacedCells}
-use Rattle.octree_specs.specs.Formats.{IsFormat, AreCellsIn, StandFor, face_leaves, mask_leaves, leaves_of, levels_of, file_words}
-use Rattle.octree_specs.specs.Octree.{Leaf, is_nonempty, leaf_word, size_of, words_of}
+use Rattle.octree_specs.specs.Formats.{AreCellsIn, StandFor, face_leaves, mask_leaves, leaves_of, levels_of, file_words}
+use Rattle.octree_specs.specs.Octree.{is_nonempty, leaf_word, size_of, words_of}
 use Rattle.octree_specs.specs.Walking.{HasTree, HasMasks}
 use Rattle.octree_specs.proofs.CodeSets.{AreAllBelow, one_set}
-use Rattle.octree_laws.proofs.Alike.{AreAlikeAt, alike, alike_cells, masks_from_tree}
+use Rattle.octree_laws.proofs.Alike.{alike, alike_cells, masks_from_tree}
 use Rattle.octree_laws.proofs.MaskLeaves.{masks_from_leaves}
 use Rattle.octree_laws.proofs.Rising.{Ascends, ascends, above_low, in_cases, in_first, in_rest}
 use Rattle.octree_laws.proofs.Sizes.{length-words_of}

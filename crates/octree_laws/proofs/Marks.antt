@@ -1,18 +1,18 @@
 -- No word of an octree with leaves has the lowest byte 0, where no leaf's word has.
-use Rattle.std.proofs.Common.{◌≡◌, ℕ, zero, suc, ◌+◌, ◌-◌, ◌*◌, ◌/◌, ◌%◌, ◌^◌, ◌<◌, ◌≤◌, Bool, true, false, cond, List, [], ◌∷◌, ◌++◌, length, get_or, refl, sym, ap, subst, ◌∙◌, inl, inr, arith, lit≤}
-use Rattle.std.specs.Prelude.{◌==◌, ◌||◌, count_ones, All}
+use Rattle.std.proofs.Common.{◌≡◌, ℕ, zero, suc, ◌+◌, ◌-◌, ◌*◌, ◌/◌, ◌%◌, ◌^◌, ◌<◌, Bool, true, List, [], ◌∷◌, length, sym, ap, subst, ◌∙◌, inl, inr, arith, lit≤}
+use Rattle.std.specs.Prelude.{◌==◌, count_ones, All}
 use Rattle.std.specs.List.{filter, sum_by, range_with_len}
-use Rattle.std.proofs.lemmas.Bool.{cases_Bool, both_ways, eqb-true, eq-eqb, or_cases, or_left, or_right}
+use Rattle.std.proofs.lemmas.Bool.{cases_Bool, eqb-true, eq-eqb, or_cases, or_left, or_right}
 use Rattle.std.proofs.lemmas.List.{length-append}
 use Rattle.std.proofs.lemmas.List.Elements.{All-nil, All-cons, All-head, All-tail, All-append, All-push}
 use lib.Count.{ones}
-use Rattle.octree_specs.specs.Octree.{Leaf, is_nonempty, leaf_word, first_children, children_of, mask_of, size_of, word_of, in_turn, below_of, words_of}
+use Rattle.octree_specs.specs.Octree.{Leaf, is_nonempty, leaf_word, first_children, children_of, size_of, word_of, in_turn, below_of, words_of}
 use Rattle.octree_laws.proofs.FirstChildren.{children_at, later_children}
 use Rattle.octree_laws.proofs.MaskLeaves.{no_children}
 use Rattle.octree_laws.proofs.Masks.{mask_front, HasOctants, has_octants}
 use Rattle.octree_laws.proofs.Sizes.{length-words_of}
 use Rattle.octree_laws.proofs.Standing.{base_of}
-use Rattle.octree_laws.proofs.Under.{div-up, div-leaf}
+use Rattle.octree_laws.proofs.Under.{div-up}
 
 abbrev pub IsMarked : ℕ → Type 0
 IsMarked word = word % 256 ≡ 0 → ⊥

@@ -1,17 +1,17 @@
 -- The leaves of format 1 are the nodes just above the cells, so their octree is that of the cells, one level less.
-use Rattle.std.proofs.Common.{◌≡◌, ℕ, zero, suc, ◌+◌, ◌*◌, ◌/◌, ◌%◌, ◌^◌, ◌<◌, ◌≤◌, Bool, true, false, cond, List, [], ◌∷◌, ◌++◌, map, refl, sym, ap, subst, ◌∙◌, inl, inr, arith, lit≤, add-one}
-use Rattle.std.specs.Prelude.{◌==◌, ◌||◌, ◌&&◌, slice_index, All}
-use Rattle.std.specs.List.{list_any, filter, sum_by, range_with_len}
+use Rattle.std.proofs.Common.{◌≡◌, ℕ, zero, suc, ◌+◌, ◌*◌, ◌/◌, ◌^◌, ◌<◌, ◌≤◌, Bool, true, false, List, [], ◌∷◌, map, refl, sym, ap, subst, ◌∙◌, inl, inr, arith, lit≤, add-one}
+use Rattle.std.specs.Prelude.{◌==◌, slice_index, All}
+use Rattle.std.specs.List.{filter, range_with_len}
 use Rattle.std.proofs.Math.Nat.{mul_comm, pow-suc, div-div-eq-div-mul}
-use Rattle.std.proofs.lemmas.Bool.{cases_Bool, cases_eq, both_ways, eqb-true, eq-eqb, ne_eqb, or_cases, or_left, or_right, and_from, and_parts, cond-true, cond-false, false_from_ne_true}
+use Rattle.std.proofs.lemmas.Bool.{cases_Bool, cases_eq, both_ways, eqb-true, eq-eqb, ne_eqb, or_cases, or_left, or_right, cond-true, cond-false, false_from_ne_true}
 use Rattle.std.proofs.lemmas.List.Elements.{All-head, All-tail}
 use Rattle.octree_specs.specs.Cells.{Cell}
 use Rattle.octree_specs.specs.Formats.{face_leaves, mask_leaves}
 use Rattle.octree_specs.specs.Octree.{Leaf, is_nonempty, leaf_word, first_children, children_of, mask_of}
-use Rattle.octree_specs.specs.Walking.{HasMask, HasTree, HasMasks, child_number}
+use Rattle.octree_specs.specs.Walking.{HasTree, HasMasks, child_number}
 use Rattle.octree_laws.proofs.FirstChildren.{first_children-zero, one_out}
 use Rattle.octree_laws.proofs.Masks.{mask_front, HasOctants, has_octants}
-use Rattle.octree_laws.proofs.Under.{empty_below, nonempty_above, div-up, div-leaf}
+use Rattle.octree_laws.proofs.Under.{empty_below, nonempty_above, div-leaf}
 
 -- two tests of which each implies the other
 pub same_test : (a b : Bool) → (a ≡ true → b ≡ true) → (b ≡ true → a ≡ true) → a ≡ b

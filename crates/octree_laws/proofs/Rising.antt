@@ -39,3 +39,13 @@ above_low low (n ∷ rest) ascending m has = elim (in_cases n rest m has) [
   | inl here ↦ omega (arith, here, ascending.0)
   | inr later ↦ omega (arith, ascending.0, above_low (n + 1) rest ascending.1 m later)
 ]
+
+-- back to neighbours
+pub increasing : (low : ℕ) (numbers : List ℕ) → Ascends low numbers → IsStrictlyIncreasing numbers
+unfolding Ascends
+increasing low [] ascending k within = absurd (omega (arith, within))
+increasing low (a ∷ []) ascending k within = absurd (omega (arith, within))
+increasing low (a ∷ b ∷ rest) ascending zero within = omega (arith, ascending.1.0)
+increasing low (a ∷ b ∷ rest) ascending (suc k) within =
+    let e : suc (k + 1) ≡ suc k + 1 = omega arith in
+    subst (λ j. get_or (a ∷ b ∷ rest) (suc k) 0 < get_or (a ∷ b ∷ rest) j 0) e (increasing (a + 1) (b ∷ rest) ascending.1 k (omega (arith, within)))

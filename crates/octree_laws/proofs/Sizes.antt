@@ -1,10 +1,10 @@
 -- How many words there are.
-use Rattle.std.proofs.Common.{◌≡◌, ℕ, zero, suc, ◌+◌, ◌*◌, ◌^◌, ◌<◌, ◌≤◌, List, [], ◌∷◌, ◌++◌, length, get_or, refl, sym, ap, ◌∙◌, arith, lit<, lit≤}
+use Rattle.std.proofs.Common.{◌≡◌, ℕ, zero, suc, ◌+◌, ◌*◌, ◌^◌, ◌≤◌, List, [], ◌∷◌, length, get_or, refl, ap, ◌∙◌, arith, lit≤}
 use Rattle.std.specs.List.{sum_by}
-use Rattle.std.proofs.Math.Nat.{pow-suc, one-le-pow, mul-le-mul_right}
+use Rattle.std.proofs.Math.Nat.{pow-suc, mul-le-mul_right}
 use Rattle.std.proofs.lemmas.List.{length-append, length_push}
 use Rattle.std.proofs.lemmas.List.Sums.{sum_by-le}
-use Rattle.octree_specs.specs.Octree.{Leaf, first_children, children_of, size_of, word_of, in_turn, below_of, words_of}
+use Rattle.octree_specs.specs.Octree.{Leaf, children_of, size_of, word_of, in_turn, below_of, words_of}
 use Rattle.octree_laws.proofs.FirstChildren.{length-first_children}
 use Rattle.octree_laws.proofs.InTurn.{length-in_turn, sum_by-one_more, sum_by-ones}
 

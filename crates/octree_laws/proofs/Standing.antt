@@ -1,11 +1,10 @@
 -- Where the words of an octree's nodes stand among all words.
-use Rattle.std.proofs.Common.{◌≡◌, ℕ, zero, suc, ◌+◌, ◌-◌, ◌*◌, ◌<◌, ◌≤◌, true, List, [], ◌∷◌, ◌++◌, length, get_or, refl, sym, ap, subst, ◌∙◌, arith, add-zero, add_assoc, add-suc}
+use Rattle.std.proofs.Common.{◌≡◌, ℕ, suc, ◌+◌, ◌<◌, ◌≤◌, List, [], ◌∷◌, ◌++◌, length, refl, subst, ◌∙◌, arith, add-zero}
 use Rattle.std.specs.Prelude.{slice_index}
 use Rattle.std.specs.List.{sum_by}
 use Rattle.std.proofs.lemmas.List.{append_assoc, length-append, get_or_at}
 use Rattle.std.proofs.lemmas.List.Sums.{sum_by-append, sum_by-cons}
-use Rattle.octree_specs.specs.Octree.{Leaf, is_nonempty, first_children, children_of, size_of, word_of, in_turn, below_of, words_of}
-use Rattle.octree_laws.proofs.FirstChildren.{children_at}
+use Rattle.octree_specs.specs.Octree.{Leaf, children_of, size_of, word_of, below_of, words_of}
 use Rattle.octree_laws.proofs.InTurn.{in_turn-append}
 use Rattle.octree_laws.proofs.Sizes.{words_below, words_at, length-words_below, length-words_at, length-below_of, size-suc}
 
@@ -62,9 +61,8 @@ root_stands leaves levels number long =
       room = omega arith;
     }
 
--- the words of a child, with as many siblings before it
-pub record ChildStands (words : List ℕ) (leaves : List Leaf) (height child number base siblings : ℕ) : Type 0 where
-  pub from : ℕ
+-- the words of a child: those below it from a number on, and its own behind those of so many siblings
+pub record ChildStands (words : List ℕ) (leaves : List Leaf) (height child from number base siblings : ℕ) : Type 0 where
   pub stands : Stands words leaves height child from (base + siblings)
   pub before : base + siblings < number
 
@@ -85,7 +83,7 @@ module _ (words : List ℕ) (leaves : List Leaf) (height node at number : ℕ) (
 
   -- the words of each child: those below it behind those below its elder siblings, and its own behind theirs
   pub child_stands : (front : List ℕ) (child : ℕ) (back : List ℕ) → children_of leaves height node ≡ front ++ child ∷ back
-      → ChildStands words leaves height child number (base_of leaves height node at) (length front)
+      → ChildStands words leaves height child (at + sum_by (size_of leaves height) front) number (base_of leaves height node at) (length front)
   unfolding base_of words_below words_at
   child_stands front child back split =
       let size : ℕ → ℕ = size_of leaves height in
@@ -106,7 +104,6 @@ module _ (words : List ℕ) (leaves : List Leaf) (height node at number : ℕ) (
       size-suc leaves height node ∙ rw split refl in
       rw split
       (record {
-        from = from;
         stands = record {
           own = holds-first words (base + length front) (word_of leaves height child from) (words_at leaves height (from + size child) back) own_rest;
           below = holds-left words from (below_of leaves height child from) (words_below leaves height (from + size child) back) below_rest;

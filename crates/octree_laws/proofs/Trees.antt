@@ -1,9 +1,9 @@
 -- The words of an octree lead from each node to its children: the law, and that words lead to one list of leaves.
-use Rattle.std.proofs.Common.{◌≡◌, ℕ, zero, suc, ◌+◌, ◌-◌, ◌*◌, ◌/◌, ◌%◌, ◌^◌, ◌<◌, ◌≤◌, Bool, true, false, List, [], ◌∷◌, ◌++◌, length, refl, sym, ap, subst, ◌∙◌, arith}
-use Rattle.std.specs.Prelude.{◌==◌, slice_index, count_ones}
+use Rattle.std.proofs.Common.{◌≡◌, ℕ, zero, suc, ◌+◌, ◌-◌, ◌*◌, ◌<◌, true, List, length, refl, sym, subst, arith}
+use Rattle.std.specs.Prelude.{slice_index}
 use Rattle.std.specs.List.{sum_by}
-use Rattle.octree_specs.specs.Octree.{Leaf, is_nonempty, leaf_word, first_children, children_of, size_of, word_of, words_of, mask_of}
-use Rattle.octree_specs.specs.Walking.{HasMask, HasTree, child_number}
+use Rattle.octree_specs.specs.Octree.{Leaf, is_nonempty, first_children, size_of, word_of, words_of}
+use Rattle.octree_specs.specs.Walking.{HasTree, child_number}
 use Rattle.octree_laws.proofs.FirstChildren.{children_at, later_children}
 use Rattle.octree_laws.proofs.Masks.{mask_front, HasOctants, has_octants}
 use Rattle.octree_laws.proofs.Standing.{base_of, Stands, ChildStands, child_stands, root_stands}
@@ -18,7 +18,7 @@ parent_word words leaves height node at number stands =
 -- the child at a place
 pub child_at : (words : List ℕ) (leaves : List Leaf) (height node at number : ℕ) → Stands words leaves (suc height) node at number
     → (place : ℕ) → place < 8 → is_nonempty leaves height (8 * node + place) ≡ true
-    → ChildStands words leaves height (8 * node + place) number (base_of leaves height node at) (length (first_children leaves height node place))
+    → ChildStands words leaves height (8 * node + place) (at + sum_by (size_of leaves height) (first_children leaves height node place)) number (base_of leaves height node at) (length (first_children leaves height node place))
 child_at words leaves height node at number stands place octant nonempty =
     child_stands words leaves height node at number stands (first_children leaves height node place) (8 * node + place) (later_children leaves height node (place + 1) (7 - place))
     (children_at leaves height node place (7 - place) (omega (arith, octant)) nonempty)
@@ -35,12 +35,12 @@ has_tree words leaves zero node at number stands = stands.own
 has_tree words leaves (suc height) node at number stands = (
   (parent_word words leaves height node at number stands).bits,
   λ place octant nonempty.
-      let child : ChildStands words leaves height (8 * node + place) number (base_of leaves height node at) (length (first_children leaves height node place)) =
+      let child : ChildStands words leaves height (8 * node + place) (at + sum_by (size_of leaves height) (first_children leaves height node place)) number (base_of leaves height node at) (length (first_children leaves height node place)) =
       child_at words leaves height node at number stands place octant nonempty in
       let is : child_number (slice_index words number) place ≡ base_of leaves height node at + length (first_children leaves height node place) =
       child_number_is words leaves height node at number stands place octant in
       subst (λ n. (n < number) × HasTree words leaves height (8 * node + place) n) (sym is)
-      (child.before, has_tree words leaves height (8 * node + place) child.from (base_of leaves height node at + length (first_children leaves height node place)) child.stands),
+      (child.before, has_tree words leaves height (8 * node + place) (at + sum_by (size_of leaves height) (first_children leaves height node place)) (base_of leaves height node at + length (first_children leaves height node place)) child.stands),
 )
 
 -- the words of an octree lead from its root, whose word is the last, to all its leaves

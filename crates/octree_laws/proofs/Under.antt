@@ -1,9 +1,9 @@
 -- Which nodes are nonempty, level by level.
-use Rattle.std.proofs.Common.{◌≡◌, ℕ, zero, suc, ◌+◌, ◌*◌, ◌/◌, ◌%◌, ◌^◌, ◌<◌, Bool, true, false, List, [], ◌∷◌, refl, sym, ap, ◌∙◌, inl, inr, arith}
-use Rattle.std.specs.Prelude.{◌==◌, ◌||◌}
+use Rattle.std.proofs.Common.{◌≡◌, ℕ, suc, ◌/◌, ◌^◌, true, false, List, [], ◌∷◌, refl, sym, ap, ◌∙◌, inl, inr, arith}
+use Rattle.std.specs.Prelude.{◌==◌}
 use Rattle.std.proofs.Math.Nat.{pow-suc, div-div-eq-div-mul}
-use Rattle.std.proofs.lemmas.Bool.{cases_Bool, both_ways, eqb-true, eqb-false, ne_eqb, eq-eqb, or_parts, or_from, or_left, or_right, or_cases}
-use Rattle.octree_specs.specs.Octree.{Leaf, is_nonempty, leaf_word}
+use Rattle.std.proofs.lemmas.Bool.{eqb-true, eqb-false, ne_eqb, eq-eqb, or_parts, or_from, or_left, or_right, or_cases}
+use Rattle.octree_specs.specs.Octree.{Leaf, is_nonempty}
 
 -- the parent of a code's node
 pub div-up : (code height : ℕ) → code / 8 ^ suc height ≡ code / 8 ^ height / 8

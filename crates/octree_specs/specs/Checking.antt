@@ -1,5 +1,5 @@
 -- Which word of a framed file the checker refuses, where its words are those of no cells. It goes through the words as a reader of the octree does, from the root down, and for each node keeps count of the words below the nodes before it.
-use Rattle.std.specs.Prelude.{◌≡◌, ℕ, zero, suc, ◌+◌, ◌-◌, ◌/◌, ◌%◌, ◌<◌, ◌==◌, ◌&&◌, ◌||◌, not, nat_lt, nat_le, Bool, cond, List, length, slice_index, count_ones, Option, None, Some, Result, Ok, Err}
+use Rattle.std.specs.Prelude.{ℕ, zero, suc, ◌+◌, ◌-◌, ◌/◌, ◌%◌, ◌==◌, ◌&&◌, ◌||◌, not, nat_lt, nat_le, Bool, cond, List, length, slice_index, count_ones, Option, None, Some, Result, Ok, Err}
 use Rattle.octree_specs.specs.Formats.{levels_of}
 
 -- a word's mask, the number of its bits, and its base
