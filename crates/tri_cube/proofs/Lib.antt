@@ -1,2 +1,5 @@
 pub mod Combinations
+pub mod Directions
+pub mod Farkas
 pub mod Joined
+pub mod Turns

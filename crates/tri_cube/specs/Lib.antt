@@ -1,3 +1,9 @@
 pub mod Apart
+pub mod Boxes
+pub mod Edges
+pub mod Extents
+pub mod Lines
+pub mod Outlines
 pub mod Pairs
+pub mod Planes
 pub mod Sides

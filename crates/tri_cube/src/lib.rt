@@ -4,8 +4,11 @@
 #![tactic(auto)]
 
 mod candidates;
+mod extents;
 mod meeting;
 mod narrow;
+mod outlines;
+mod planes;
 mod products;
 mod rows;
 mod separation;

@@ -33,7 +33,8 @@ fn minor(a: i64, b: i64, c: i64, d: i64) -> i128
 /// The scalar product.
 pub fn dot(a: &Vector, b: &NarrowVector) -> i128
     requires { IsWithin (2 ^ 69) a.now }
-    ensures { result ≡ dot_of a.now b.now }
+    ensures value { result ≡ dot_of a.now b.now }
+    ensures within { unsigned_abs result ≤ 2 ^ 105 }
 {
     dot_xy(a, b) + scaled(a.z, b.z())
 }
@@ -48,7 +49,7 @@ fn dot_xy(a: &Vector, b: &NarrowVector) -> i128
 }
 
 /// The product of two numbers of narrow vectors.
-fn wide_product(a: i64, b: i64) -> i128
+pub fn wide_product(a: i64, b: i64) -> i128
     requires a_in { unsigned_abs a ≤ 2 ^ 34 }
     requires b_in { unsigned_abs b ≤ 2 ^ 34 }
     ensures value { result ≡ a *ℤ b }
@@ -58,7 +59,7 @@ fn wide_product(a: i64, b: i64) -> i128
 }
 
 /// The product of a number of a vector and one of a narrow vector.
-fn scaled(a: i128, b: i64) -> i128
+pub fn scaled(a: i128, b: i64) -> i128
     requires a_in { unsigned_abs a ≤ 2 ^ 69 }
     requires b_in { unsigned_abs b ≤ 2 ^ 34 }
     ensures value { result ≡ a *ℤ b }
