@@ -2,4 +2,5 @@ pub mod Combinations
 pub mod Directions
 pub mod Farkas
 pub mod Joined
+pub mod DirectionKinds
 pub mod Turns
