@@ -6,4 +6,6 @@ pub mod Lines
 pub mod Outlines
 pub mod Pairs
 pub mod Planes
+pub mod Prepared
 pub mod Sides
+pub mod Views

@@ -3,7 +3,8 @@
 ghost use Rattle.std.specs.Prelude.{◌≡◌, ◌^◌, ◌≤◌, unsigned_abs, int_le};
 ghost use Rattle.octree_specs.specs.Meeting.{HasPlanes};
 ghost use Rattle.tri_cube.specs.Boxes.{extents_miss, extents_in_order};
-ghost use Rattle.tri_cube.specs.Extents.{SpanWithin, cube_span, span, span_of, spans_miss};
+ghost use Rattle.tri_cube.specs.Extents.{SpanWithin, span, span_of, spans_miss};
+ghost use Rattle.tri_cube.specs.Views.{box_of, cube_box};
 
 use std::marker::Model;
 use svo_base::{Cube, Triangle};
@@ -86,11 +87,10 @@ pub struct Extents {
 
 impl Extents {
     /// From the lower planes of a cube to its upper ones.
+    #[tactic(auto, unfolding(crate::specs::Views::cube_box))]
     pub fn of_cube(cube: &Cube) -> Extents
         requires { HasPlanes cube.now }
-        ensures x { result.x ≡ cube_span cube.now 0 }
-        ensures y { result.y ≡ cube_span cube.now 1 }
-        ensures z { result.z ≡ cube_span cube.now 2 }
+        ensures { result ≡ cube_box cube.now }
     {
         Extents {
             x: Extent::new(cube.lo[0], cube.hi[0]),
@@ -100,10 +100,9 @@ impl Extents {
     }
 
     /// From the least coordinates of a triangle's corners to the greatest.
+    #[tactic(auto, unfolding(crate::specs::Views::box_of))]
     pub fn of_triangle(triangle: &Triangle) -> Extents
-        ensures x { result.x ≡ span_of triangle.now.a.x triangle.now.b.x triangle.now.c.x }
-        ensures y { result.y ≡ span_of triangle.now.a.y triangle.now.b.y triangle.now.c.y }
-        ensures z { result.z ≡ span_of triangle.now.a.z triangle.now.b.z triangle.now.c.z }
+        ensures { result ≡ box_of triangle.now }
     {
         let Triangle { a, b, c } = triangle;
         Extents {

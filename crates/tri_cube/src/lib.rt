@@ -9,11 +9,13 @@ mod meeting;
 mod narrow;
 mod outlines;
 mod planes;
+mod prepared;
 mod products;
 mod rows;
 mod separation;
 
 pub use meeting::overlaps;
+pub use prepared::PreparedTriangle;
 
 #[cfg(test)]
 mod tests;
