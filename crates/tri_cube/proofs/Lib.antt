@@ -3,5 +3,7 @@ pub mod Directions
 pub mod Farkas
 pub mod Joined
 pub mod DirectionKinds
+pub mod LeastProducts
+pub mod SameWay
 pub mod SeenApart
 pub mod Turns
