@@ -378,7 +378,7 @@ sides_turned a b c m (on_second is) = on_first is
 sides_turned a b c m (on_third is) = on_second is
 
 -- one number of the cross product of two edges is that of the next two
-area_turned : (ap aq bp bq cp cq : ℤ) →
+pub area_turned : (ap aq bp bq cp cq : ℤ) →
     (((ap -ℤ bp) *ℤ (aq -ℤ cq)) -ℤ ((aq -ℤ bq) *ℤ (ap -ℤ cp))) ≡ ((bp -ℤ cp) *ℤ (bq -ℤ aq)) -ℤ ((bq -ℤ cq) *ℤ (bp -ℤ ap))
 area_turned ap aq bp bq cp cq =
     same

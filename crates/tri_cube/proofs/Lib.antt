@@ -6,4 +6,5 @@ pub mod DirectionKinds
 pub mod LeastProducts
 pub mod SameWay
 pub mod SeenApart
+pub mod SeenSides
 pub mod Turns
