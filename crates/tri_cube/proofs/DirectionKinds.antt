@@ -369,7 +369,7 @@ near_farthest lo hi p q r n is_box before first second =
 
 -- ---- the corners in turn
 
-before_turned : (lo hi a b c n : Vector) → IsBefore lo hi a b c n → IsBefore lo hi b c a n
+pub before_turned : (lo hi a b c n : Vector) → IsBefore lo hi a b c n → IsBefore lo hi b c a n
 before_turned lo hi a b c n is = record { first = is.second; second = is.third; third = is.first }
 
 sides_turned : (a b c m : Vector) → Sides a b c m → Sides b c a m

@@ -12,7 +12,7 @@ use Rattle.tri_cube.specs.Extents.{Span, span}
 use Rattle.tri_cube.specs.Lines.{line, least_of, greatest_of, is_beyond, is_short}
 use Rattle.tri_cube.specs.Outlines.{line_of, area_of, outline_of, misses_outline}
 use Rattle.tri_cube.proofs.Directions.{IsBehind, IsBefore}
-use Rattle.tri_cube.proofs.DirectionKinds.{IsBox, IsSide, Sides, Sides.on_first, Sides.on_second, Sides.on_third, area_turned}
+use Rattle.tri_cube.proofs.DirectionKinds.{IsBox, IsSide, Sides, Sides.on_first, Sides.on_second, Sides.on_third, area_turned, before_turned}
 use Rattle.tri_cube.proofs.SameWay.{IsSameWay, same_way, same_most, same_before}
 use Rattle.tri_cube.proofs.LeastProducts.{greatest_is, least_none, least_in, less_test, test_less, behind_from, behind_says}
 
@@ -169,3 +169,88 @@ next_area a b c =
         (minus (times (minus (the qy) (the py)) (minus (the rz) (the pz))) (times (minus (the qz) (the pz)) (minus (the ry) (the py))))
         (minus (times (minus (the py) (the qy)) (minus (the pz) (the rz))) (times (minus (the pz) (the qz)) (minus (the py) (the ry))))
         (omega arith)
+
+-- the test of an outline over the tests of its sides in both senses
+abbrev misses_by : (area : ℤ) (p q r u v w : Bool) → Bool
+misses_by area p q r u v w =
+    (int_le (pos 0) area && (p || (q || (r || false)))) || (int_le area (pos 0) && (u || (v || (w || false))))
+
+misses_is : (lo hi a b c : Vector) → misses_seen lo hi a b c ≡ misses_by (area a b c) (passes lo hi a b) (passes lo hi b c) (passes lo hi c a) (falls_short lo hi a b) (falls_short lo hi b c) (falls_short lo hi c a)
+unfolding misses_outline outline_of area_of
+misses_is lo hi a b c = refl
+
+at_most_test : (a b : ℤ) → a ≤ℤ b → int_le a b ≡ true
+at_most_test a b most = grind (arith, ints)
+
+test_at_most : (a b : ℤ) → int_le a b ≡ true → a ≤ℤ b
+test_at_most a b test = omega (arith, ints, test)
+
+-- a side in either sense
+abbrev InSense : (area : ℤ) (p u : Bool) → Type 0
+InSense area p u = ((pos 0 ≤ℤ area) × (p ≡ true)) ⊎ ((area ≤ℤ pos 0) × (u ≡ true))
+
+misses_from : (area : ℤ) (p q r u v w : Bool) → InSense area p u ⊎ (InSense area q v ⊎ InSense area r w) → misses_by area p q r u v w ≡ true
+misses_from area p q r u v w (inl (inl (over, test))) =
+    or_left _ _ (and_from _ _ (at_most_test (pos 0) area over) (or_left p _ test))
+misses_from area p q r u v w (inl (inr (under, test))) =
+    or_right _ _ (and_from _ _ (at_most_test area (pos 0) under) (or_left u _ test))
+misses_from area p q r u v w (inr (inl (inl (over, test)))) =
+    or_left _ _ (and_from _ _ (at_most_test (pos 0) area over) (or_right p _ (or_left q _ test)))
+misses_from area p q r u v w (inr (inl (inr (under, test)))) =
+    or_right _ _ (and_from _ _ (at_most_test area (pos 0) under) (or_right u _ (or_left v _ test)))
+misses_from area p q r u v w (inr (inr (inl (over, test)))) =
+    or_left _ _ (and_from _ _ (at_most_test (pos 0) area over) (or_right p _ (or_right q _ (or_left r false test))))
+misses_from area p q r u v w (inr (inr (inr (under, test)))) =
+    or_right _ _ (and_from _ _ (at_most_test area (pos 0) under) (or_right u _ (or_right v _ (or_left w false test))))
+
+one_of : (p q r : Bool) → (p || (q || (r || false))) ≡ true → (p ≡ true) ⊎ ((q ≡ true) ⊎ (r ≡ true))
+one_of true q r test = inl refl
+one_of false true r test = inr (inl refl)
+one_of false false true test = inr (inr refl)
+one_of false false false test = cc
+
+misses_says : (area : ℤ) (p q r u v w : Bool) → misses_by area p q r u v w ≡ true → InSense area p u ⊎ (InSense area q v ⊎ InSense area r w)
+misses_says area p q r u v w test = elim (or_cases _ _ test) [
+  | inl forward ↦
+      let parts = and_parts (int_le (pos 0) area) (p || (q || (r || false))) forward in
+      let over = test_at_most (pos 0) area parts.0 in
+      elim (one_of p q r parts.1) [ inl first ↦ inl (inl (over, first)) | inr (inl second) ↦ inr (inl (inl (over, second))) | inr (inr third) ↦ inr (inr (inl (over, third))) ]
+  | inr backward ↦
+      let parts = and_parts (int_le area (pos 0)) (u || (v || (w || false))) backward in
+      let under = test_at_most area (pos 0) parts.0 in
+      elim (one_of u v w parts.1) [ inl first ↦ inl (inr (under, first)) | inr (inl second) ↦ inr (inl (inr (under, second))) | inr (inr third) ↦ inr (inr (inr (under, third))) ]
+]
+
+-- ---- outlines
+
+-- a direction across one of the sides is seen
+pub misses_by_sides : (lo hi a b c m : Vector) → IsBox lo hi → IsBefore lo hi a b c m → IsNonzero m → Sides a b c m → misses_seen lo hi a b c ≡ true
+misses_by_sides lo hi a b c m is_box before some sides =
+    misses_is lo hi a b c ∙ misses_from (area a b c) _ _ _ _ _ _ (elim sides [
+      | on_first is ↦ inl (passed_by lo hi a b c m is_box before some is)
+      | on_second is ↦ inr (inl (rw (← next_area a b c) (passed_by lo hi b c a m is_box (before_turned lo hi a b c m before) some is)))
+      | on_third is ↦ inr (inr (rw (← next_area a b c, ← next_area b c a) (passed_by lo hi c a b m is_box (before_turned lo hi b c a m (before_turned lo hi a b c m before)) some is)))
+    ])
+
+-- and what is seen is such a direction
+pub data SideApart (lo hi a b c : Vector) : Type 0 where
+  by_first : BeforeSide lo hi a b c a b → SideApart lo hi a b c
+  by_second : BeforeSide lo hi a b c b c → SideApart lo hi a b c
+  by_third : BeforeSide lo hi a b c c a → SideApart lo hi a b c
+
+pub sides_seen : (lo hi a b c : Vector) → misses_seen lo hi a b c ≡ true → SideApart lo hi a b c
+sides_seen lo hi a b c test =
+    elim (misses_says (area a b c) (passes lo hi a b) (passes lo hi b c) (passes lo hi c a) (falls_short lo hi a b) (falls_short lo hi b c) (falls_short lo hi c a) (sym (misses_is lo hi a b c) ∙ test)) [
+      | inl is ↦ by_first (passed_says lo hi a b c is)
+      | inr (inl is) ↦ by_second (elim (passed_says lo hi b c a (rw (next_area a b c) is)) [
+        | inl way ↦ inl (twice_turned (side_of b c) way)
+        | inr way ↦ inr (twice_turned (opposite_of (side_of b c)) way)
+      ])
+      | inr (inr is) ↦ by_third (elim (passed_says lo hi c a b (rw (next_area b c a, next_area a b c) is)) [
+        | inl way ↦ inl (before_turned lo hi c a b (side_of c a) way)
+        | inr way ↦ inr (before_turned lo hi c a b (opposite_of (side_of c a)) way)
+      ])
+    ]
+  where
+    twice_turned : (m : Vector) → IsBefore lo hi b c a m → IsBefore lo hi a b c m
+    twice_turned m way = before_turned lo hi c a b m (before_turned lo hi b c a m way)
