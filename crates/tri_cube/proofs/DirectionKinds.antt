@@ -72,10 +72,10 @@ plane_in n lo hi sign plane is =
 
 -- ---- five rows: the same planes are met first, and the same corner is the farthest
 
-abbrev minus_of : Vector → Vector → Vector
+abbrev pub minus_of : Vector → Vector → Vector
 minus_of a b = vector (a.x -ℤ b.x) (a.y -ℤ b.y) (a.z -ℤ b.z)
 
-dot_of-minus_of : (m a b : Vector) → dot_of m (minus_of a b) ≡ dot_of m a -ℤ dot_of m b
+pub dot_of-minus_of : (m a b : Vector) → dot_of m (minus_of a b) ≡ dot_of m a -ℤ dot_of m b
 dot_of-minus_of m a b =
     same
     (plus (plus (times (the m.x) (minus (the a.x) (the b.x))) (times (the m.y) (minus (the a.y) (the b.y)))) (times (the m.z) (minus (the a.z) (the b.z))))

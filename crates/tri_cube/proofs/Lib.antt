@@ -6,5 +6,6 @@ pub mod DirectionKinds
 pub mod LeastProducts
 pub mod SameWay
 pub mod SeenApart
+pub mod SeenBoxes
 pub mod SeenSides
 pub mod Turns

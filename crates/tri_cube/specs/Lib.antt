@@ -1,4 +1,5 @@
 pub mod Apart
+pub mod Axes
 pub mod Boxes
 pub mod Edges
 pub mod Extents
