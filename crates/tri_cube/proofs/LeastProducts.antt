@@ -13,11 +13,11 @@ use Rattle.tri_cube.proofs.DirectionKinds.{IsBox}
 
 -- ---- one axis
 
-least_below : (n : ℤ) (s : Span) → n <ℤ pos 0 → least_of n s ≡ n *ℤ s.high
+pub least_below : (n : ℤ) (s : Span) → n <ℤ pos 0 → least_of n s ≡ n *ℤ s.high
 unfolding least_of
 least_below n s below = let test : int_lt n (pos 0) ≡ true = grind (arith, ints) in rw test refl
 
-least_above : (n : ℤ) (s : Span) → pos 0 ≤ℤ n → least_of n s ≡ n *ℤ s.low
+pub least_above : (n : ℤ) (s : Span) → pos 0 ≤ℤ n → least_of n s ≡ n *ℤ s.low
 unfolding least_of
 least_above n s over = let test : int_lt n (pos 0) ≡ false = grind (arith, ints) in rw test refl
 

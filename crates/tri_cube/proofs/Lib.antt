@@ -4,6 +4,7 @@ pub mod Farkas
 pub mod Joined
 pub mod DirectionKinds
 pub mod LeastProducts
+pub mod NotBoth
 pub mod SameWay
 pub mod SeenApart
 pub mod SeenBoxes
