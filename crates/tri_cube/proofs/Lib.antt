@@ -9,4 +9,5 @@ pub mod SameWay
 pub mod SeenApart
 pub mod SeenBoxes
 pub mod SeenSides
+pub mod SeparatingAxes
 pub mod Turns

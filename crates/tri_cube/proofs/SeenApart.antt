@@ -21,14 +21,9 @@ use Rattle.tri_cube.specs.Views.{are_seen_apart, box_of, cube_box, plane_of, mis
 use Rattle.tri_cube.proofs.Farkas.{Cleared}
 use Rattle.tri_cube.proofs.Directions.{IsIn, IsBehind, IsBefore, nine_rows, ones, weights_or_direction}
 use Rattle.tri_cube.proofs.DirectionKinds.{IsBox, Kind, Kind.along_x, Kind.along_y, Kind.along_z, Kind.side_x, Kind.side_y, Kind.side_z, Kind.across_all, HasKind, direction_of_kind, turned}
+use Rattle.tri_cube.proofs.NotBoth.{lowest, highest, box_met, not_both}
 use Rattle.tri_cube.proofs.SeenBoxes.{is_beside, boxes_miss, plane_misses}
 use Rattle.tri_cube.proofs.SeenSides.{misses_seen, misses_by_sides}
-
-abbrev pub lowest : Cube → Vector
-lowest cube = vector (low_of cube 0) (low_of cube 1) (low_of cube 2)
-
-abbrev pub highest : Cube → Vector
-highest cube = vector (high_of cube 0) (high_of cube 1) (high_of cube 2)
 
 -- ---- the tests, over vectors
 

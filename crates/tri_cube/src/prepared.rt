@@ -57,7 +57,7 @@ impl PreparedTriangle {
     /// Whether the closed triangle and a closed cube share a point, which is counted as one test.
     /// Planes of the cube may be at most 2^33 away from 0; between planes in the wrong order there is
     /// no point.
-    #[tactic(auto, using(crate::proofs::SeenApart::unseen_exactly_where_met))]
+    #[tactic(auto, using(crate::proofs::SeparatingAxes::unseen_exactly_where_met))]
     pub fn overlaps<L: Ledger>(&self, cube: &Cube, tests: &mut Steps<L>) -> bool
         requires { HasPlanes cube.now }
         ensures meets { IsTrue result ↔ Meets self.now cube.now }
