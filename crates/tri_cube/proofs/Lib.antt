@@ -1,7 +1,6 @@
-pub mod Combinations
 pub mod Directions
 pub mod Farkas
-pub mod Joined
+pub mod FirstGood
 pub mod DirectionKinds
 pub mod LeastProducts
 pub mod NotBoth

@@ -1,5 +1,5 @@
 -- The thirteen axes of a triangle, and when one separates the triangle from a cube (Schwarz, Seidel 2010).
-use Rattle.std.specs.Prelude.{ℕ, zero, suc, ℤ, pos, int_lt, int_le, Bool, ◌&&◌, ◌||◌, if◌then◌else◌, Option, List, [], ◌∷◌, map}
+use Rattle.std.specs.Prelude.{ℕ, ◌==◌, ℤ, pos, int_lt, int_le, Bool, ◌&&◌, ◌||◌, if◌then◌else◌, Option, List, [], ◌∷◌, map}
 use Rattle.std.specs.List.{slice_index, slice_index_or, list_all, flat_map, find, range_with_len}
 use Rattle.svo_base.specs.declared.shapes.Triangle.{Triangle}
 use Rattle.svo_base.specs.declared.shapes.Cube.{Cube}
@@ -11,23 +11,20 @@ use Rattle.tri_cube.specs.Edges.{corner, edge_of}
 
 -- the unit vectors are numbered 0, 1, 2, and so are the edges, from each corner to the next
 abbrev pub unit_at : ℕ → Vector
-unit_at zero = vector (pos 1) (pos 0) (pos 0)
-unit_at (suc zero) = vector (pos 0) (pos 1) (pos 0)
-unit_at (suc (suc _)) = vector (pos 0) (pos 0) (pos 1)
+unit_at k =
+    (if k == 0 then vector (pos 1) (pos 0) (pos 0)
+    else (if k == 1 then vector (pos 0) (pos 1) (pos 0) else vector (pos 0) (pos 0) (pos 1)))
 
 abbrev pub edge_at : Triangle → ℕ → Vector
-edge_at t zero = edge_of t.a t.b
-edge_at t (suc zero) = edge_of t.b t.c
-edge_at t (suc (suc _)) = edge_of t.c t.a
+edge_at t i = (if i == 0 then edge_of t.a t.b else (if i == 1 then edge_of t.b t.c else edge_of t.c t.a))
 
 abbrev pub normal_of : Triangle → Vector
 normal_of t = cross_of (edge_of t.a t.b) (edge_of t.a t.c)
 
 -- an axis by its case: a unit vector, the normal, or the product of an edge and a unit vector
 abbrev pub axis_by_case : Triangle → ℕ → ℕ → ℕ → Vector
-axis_by_case t zero i k = unit_at k
-axis_by_case t (suc zero) i k = normal_of t
-axis_by_case t (suc (suc _)) i k = cross_of (edge_at t i) (unit_at k)
+axis_by_case t kind i k =
+    (if kind == 0 then unit_at k else (if kind == 1 then normal_of t else cross_of (edge_at t i) (unit_at k)))
 
 -- the axes are numbered from 0 to 12
 unfoldable pub axis_at : Triangle → ℕ → Vector

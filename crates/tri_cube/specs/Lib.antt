@@ -1,11 +1,10 @@
-pub mod Apart
 pub mod Axes
 pub mod Boxes
 pub mod Edges
 pub mod Extents
 pub mod Lines
 pub mod Outlines
-pub mod Pairs
+pub mod CandidatesInTurn
 pub mod Planes
 pub mod Prepared
 pub mod Sides

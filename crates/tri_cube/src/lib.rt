@@ -12,9 +12,8 @@ mod planes;
 mod prepared;
 mod products;
 mod rows;
-mod separation;
 
-pub use meeting::overlaps;
+pub use meeting::{overlaps, overlaps_by_candidates};
 pub use prepared::PreparedTriangle;
 
 #[cfg(test)]

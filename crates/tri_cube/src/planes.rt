@@ -94,7 +94,7 @@ fn step(from: i32, to: i32) -> i64
 }
 
 /// How far a point is in a direction.
-fn reach(direction: &Vector, at: &Point) -> i128
+pub fn reach(direction: &Vector, at: &Point) -> i128
     requires { IsWithin (2 ^ 69) direction.now }
     ensures value { result ≡ dot_of direction.now (corner at.now) }
     ensures within { unsigned_abs result ≤ 2 ^ 105 }
@@ -110,9 +110,9 @@ fn place(at: &Point) -> NarrowVector
 }
 
 /// The least product of a direction with a point of a box.
-fn least(direction: &Vector, extents: &Extents) -> i128
+pub fn least(direction: &Vector, extents: &Extents) -> i128
     requires { IsWithin (2 ^ 69) direction.now }
-    ensures value { result ≡ (least_of direction.now.x extents.now.x +ℤ least_of direction.now.y extents.now.y) +ℤ least_of direction.now.z extents.now.z }
+    ensures { result ≡ (least_of direction.now.x extents.now.x +ℤ least_of direction.now.y extents.now.y) +ℤ least_of direction.now.z extents.now.z }
 {
     least_xy(direction, extents) + least_along(direction.z, &extents.z)
 }
@@ -137,7 +137,7 @@ fn least_along(step: i128, extent: &Extent) -> i128
 /// The greatest product of a direction with a point of a box.
 fn greatest(direction: &Vector, extents: &Extents) -> i128
     requires { IsWithin (2 ^ 69) direction.now }
-    ensures value { result ≡ (greatest_of direction.now.x extents.now.x +ℤ greatest_of direction.now.y extents.now.y) +ℤ greatest_of direction.now.z extents.now.z }
+    ensures { result ≡ (greatest_of direction.now.x extents.now.x +ℤ greatest_of direction.now.y extents.now.y) +ℤ greatest_of direction.now.z extents.now.z }
 {
     greatest_xy(direction, extents) + greatest_along(direction.z, &extents.z)
 }
