@@ -1,3 +1,4 @@
+pub mod CornerProducts
 pub mod Directions
 pub mod Farkas
 pub mod FirstGood

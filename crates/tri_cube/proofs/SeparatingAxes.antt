@@ -180,7 +180,7 @@ met_or_separated t cube is_box = elim (met_or_seen t cube is_box) [
   | inr apart ↦ inr (axis_seen t cube apart)
 ]
 
-box_from_test : (t : Triangle) (cube : Cube) → extents_in_order (cube_box cube) ≡ true → IsBox (lowest cube) (highest cube)
+pub box_from_test : (t : Triangle) (cube : Cube) → extents_in_order (cube_box cube) ≡ true → IsBox (lowest cube) (highest cube)
 unfolding extents_in_order cube_box
 box_from_test t cube test =
     let whole = and_parts (int_le (low_of cube 0) (high_of cube 0) && int_le (low_of cube 1) (high_of cube 1)) (int_le (low_of cube 2) (high_of cube 2)) test in

@@ -7,5 +7,7 @@ pub mod Outlines
 pub mod CandidatesInTurn
 pub mod Planes
 pub mod Prepared
+pub mod SeenAlong
 pub mod Sides
+pub mod Verdicts
 pub mod Views

@@ -12,9 +12,11 @@ mod planes;
 mod prepared;
 mod products;
 mod rows;
+mod verdicts;
 
 pub use meeting::{overlaps, overlaps_by_candidates};
 pub use prepared::PreparedTriangle;
+pub use verdicts::{Verdict, why};
 
 #[cfg(test)]
 mod tests;
