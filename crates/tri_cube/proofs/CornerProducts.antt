@@ -153,15 +153,15 @@ ahead_from t cube axis is =
     (and_from (int_lt (dot_of axis (corner t.a)) far) (int_lt (dot_of axis (corner t.b)) far) (less_test _ _ is.first) (less_test _ _ is.second))
     (less_test _ _ is.third)
 
-abbrev Before : Triangle → Cube → Vector → Type 0
+abbrev pub Before : Triangle → Cube → Vector → Type 0
 Before t cube axis = IsBefore (lowest cube) (highest cube) (corner t.a) (corner t.b) (corner t.c) axis
 
-before_says : (t : Triangle) (cube : Cube) (axis : Vector) → is_ahead t (cube_box cube) axis ≡ true → Before t cube axis
+pub before_says : (t : Triangle) (cube : Cube) (axis : Vector) → is_ahead t (cube_box cube) axis ≡ true → Before t cube axis
 before_says t cube axis test =
     let is = ahead_says t cube axis test in
     record { first = behind_from _ _ axis (corner t.a) is.first; second = behind_from _ _ axis (corner t.b) is.second; third = behind_from _ _ axis (corner t.c) is.third }
 
-before_ahead : (t : Triangle) (cube : Cube) (axis : Vector) → IsBox (lowest cube) (highest cube) → Before t cube axis → is_ahead t (cube_box cube) axis ≡ true
+pub before_ahead : (t : Triangle) (cube : Cube) (axis : Vector) → IsBox (lowest cube) (highest cube) → Before t cube axis → is_ahead t (cube_box cube) axis ≡ true
 before_ahead t cube axis is_box before =
     ahead_from t cube axis (record {
       first = behind_says _ _ axis (corner t.a) is_box before.first;

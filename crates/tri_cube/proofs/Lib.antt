@@ -1,6 +1,7 @@
 pub mod CornerProducts
 pub mod Directions
 pub mod Farkas
+pub mod FirstAxis
 pub mod FirstGood
 pub mod DirectionKinds
 pub mod LeastProducts
