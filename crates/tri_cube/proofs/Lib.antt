@@ -12,3 +12,4 @@ pub mod SeenBoxes
 pub mod SeenSides
 pub mod SeparatingAxes
 pub mod Turns
+pub mod WorkedAxes

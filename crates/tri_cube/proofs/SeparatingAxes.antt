@@ -70,9 +70,6 @@ side_z p q =
 -- ---- from what is seen along an axis
 
 module _ (t : Triangle) (cube : Cube) where
-  lo : Vector
-  lo = lowest cube
-
   from_x : (number : ℕ) (p q : Vector) → number < 13 → cross_of (vector (q.x -ℤ p.x) (q.y -ℤ p.y) (q.z -ℤ p.z)) unit_x ≡ axis_at t number
       → BeforeSide (lowest cube) (highest cube) (corner t.a) (corner t.b) (corner t.c) p q → HasAxis t cube
   from_x number p q below is before = by_number t cube number (side_of p q) below (side_x p q ∙ is) before

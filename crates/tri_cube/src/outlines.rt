@@ -1,13 +1,13 @@
 //! A triangle as it is seen along an axis: an outline of three sides. A cube that is beyond a side
 //! shares no point with the triangle.
 
-ghost use Rattle.std.specs.Prelude.{◌≡◌, ◌^◌, ◌≤◌, ◌*ℤ◌, ◌+ℤ◌, ◌-ℤ◌, ◌&&◌, unsigned_abs};
+ghost use Rattle.std.specs.Prelude.{◌≡◌, ◌^◌, ◌≤◌, ◌*ℤ◌, ◌+ℤ◌, ◌&&◌, unsigned_abs};
 ghost use Rattle.std.specs.List.{list_any};
 ghost use Rattle.tri_cube.specs.Lines.{least_of, greatest_of, is_beyond, is_short};
 ghost use Rattle.tri_cube.specs.Outlines.{area_of, line_of, misses_outline, outline_of};
 
 use crate::extents::Extent;
-use crate::products::wide_product;
+use crate::products::{step, wide_product};
 use std::marker::Model;
 
 /// A corner as it is seen along an axis: its coordinates along the two other axes.
@@ -67,14 +67,6 @@ impl Side {
     {
         greatest(self.first, first) + greatest(self.second, second) < self.reach
     }
-}
-
-/// From one coordinate to another.
-fn step(from: i32, to: i32) -> i64
-    ensures value { result ≡ to -ℤ from }
-    ensures within { unsigned_abs result ≤ 2 ^ 33 }
-{
-    i64::from(to) - i64::from(from)
 }
 
 /// How far a corner is in a direction.

@@ -1,6 +1,6 @@
 //! The plane of a triangle. A cube that is on one side of it shares no point with the triangle.
 
-ghost use Rattle.std.specs.Prelude.{◌≡◌, ◌^◌, ◌≤◌, ◌+ℤ◌, ◌-ℤ◌, unsigned_abs};
+ghost use Rattle.std.specs.Prelude.{◌≡◌, ◌^◌, ◌≤◌, ◌+ℤ◌, unsigned_abs};
 ghost use Rattle.octree_specs.specs.Vectors.{IsWithin, cross_of, dot_of};
 ghost use Rattle.tri_cube.specs.Edges.{corner, edge_of};
 ghost use Rattle.tri_cube.specs.Lines.{greatest_of, least_of};
@@ -8,7 +8,7 @@ ghost use Rattle.tri_cube.specs.Planes.{is_above, is_below, misses_plane, plane_
 
 use crate::extents::{Extent, Extents};
 use crate::narrow::NarrowVector;
-use crate::products::{cross, dot, scaled};
+use crate::products::{cross, dot, scaled, step};
 use std::marker::Model;
 use svo_base::{Point, Triangle, Vector};
 
@@ -84,13 +84,6 @@ pub fn edge(from: &Point, to: &Point) -> NarrowVector
     ensures { result ≡ edge_of from.now to.now }
 {
     NarrowVector::new(step(from.x, to.x), step(from.y, to.y), step(from.z, to.z))
-}
-
-fn step(from: i32, to: i32) -> i64
-    ensures value { result ≡ to -ℤ from }
-    ensures within { unsigned_abs result ≤ 2 ^ 34 }
-{
-    i64::from(to) - i64::from(from)
 }
 
 /// How far a point is in a direction.

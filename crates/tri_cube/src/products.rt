@@ -1,10 +1,18 @@
-//! Products of vectors, in 128 bits.
+//! Differences of coordinates, and products of vectors, which are in 128 bits.
 
 ghost use Rattle.std.specs.Prelude.{◌≡◌, ◌^◌, ◌≤◌, ◌+ℤ◌, ◌-ℤ◌, ◌*ℤ◌, unsigned_abs};
 ghost use Rattle.octree_specs.specs.Vectors.{IsWithin, cross_of, dot_of, opposite_of};
 
 use crate::narrow::NarrowVector;
 use svo_base::Vector;
+
+/// From one coordinate to another.
+pub fn step(from: i32, to: i32) -> i64
+    ensures value { result ≡ to -ℤ from }
+    ensures within { unsigned_abs result ≤ 2 ^ 33 }
+{
+    i64::from(to) - i64::from(from)
+}
 
 /// The cross product.
 pub fn cross(a: &NarrowVector, b: &NarrowVector) -> Vector
