@@ -1,27 +1,26 @@
 -- An axis separates a triangle and a cube, by the products with their corners, exactly where the triangle is before the cube along it.
-use Rattle.std.proofs.Common.{◌≡◌, ℕ, suc, zero, ◌+◌, ◌<◌, ◌≤◌, Bool, true, false, not, ◌&&◌, ◌||◌, Option, Some, None, List, [], ◌∷◌, inl, inr, refl, subst, arith, sym, ap, ◌∙◌, ℤ, pos, ◌+ℤ◌, ◌≤ℤ◌, ◌<ℤ◌}
-use Rattle.std.specs.Prelude.{◌⊎◌, int_lt, int_le, cond}
-use Rattle.std.specs.List.{list_all, find, range_with_len}
-use Rattle.std.proofs.lemmas.Bool.{and_parts, and_from, or_cases, or_left, or_right, cases_Bool, both_ways, false_from_ne_true}
+use Rattle.std.proofs.Common.{◌≡◌, Bool, true, false, not, ◌&&◌, ◌||◌, List, [], ◌∷◌, inl, inr, refl, subst, arith, sym, ap, ◌∙◌, ℤ, ◌≤ℤ◌, ◌<ℤ◌}
+use Rattle.std.specs.Prelude.{◌⊎◌, int_lt}
+use Rattle.std.specs.List.{list_all}
+use Rattle.std.proofs.lemmas.Bool.{and_parts, and_from, cases_Bool}
 use Rattle.std.proofs.lemmas.Int.{ints}
 use lib.Signed.{≤ℤ_refl}
 use Rattle.svo_base.specs.declared.shapes.Triangle.{Triangle}
 use Rattle.svo_base.specs.declared.shapes.Cube.{Cube}
 use Rattle.svo_base.specs.declared.shapes.Vector.{Vector}
-use Rattle.octree_specs.specs.Meeting.{Meets, low_of, high_of}
 use Rattle.octree_specs.specs.Vectors.{vector, dot_of, opposite_of}
 use Rattle.octree_specs.proofs.Vectors.{dot_of-opposite_of, vector_same}
 use Rattle.octree_specs.proofs.Cones.{Among}
-use Rattle.tri_cube.specs.Axes.{axis_at, triangle_corners, cube_corners, is_in_order, are_below, separates, first_separating}
+use Rattle.tri_cube.specs.Axes.{triangle_corners, cube_corners, is_in_order, are_below, separates}
 use Rattle.tri_cube.specs.Boxes.{extents_in_order}
 use Rattle.tri_cube.specs.Edges.{corner}
 use Rattle.tri_cube.specs.SeenAlong.{is_ahead, seen_along}
 use Rattle.tri_cube.specs.Views.{cube_box}
-use Rattle.tri_cube.proofs.Directions.{IsIn, IsBefore, Each, each_among}
+use Rattle.tri_cube.proofs.Directions.{IsIn, IsBefore, each_among}
 use Rattle.tri_cube.proofs.DirectionKinds.{IsBox}
-use Rattle.tri_cube.proofs.LeastProducts.{least_in, least_in-at_most, IsLeastCorner, least_corner, less_test, test_less, behind_from, behind_says}
-use Rattle.tri_cube.proofs.NotBoth.{lowest, highest, box_met, not_both}
-use Rattle.tri_cube.proofs.SeparatingAxes.{HasAxis, met_or_separated, box_from_test, test_from_box}
+use Rattle.tri_cube.proofs.LeastProducts.{least_in, least_corner, less_test, test_less, behind_from, behind_says}
+use Rattle.tri_cube.proofs.NotBoth.{lowest, highest}
+use Rattle.tri_cube.proofs.SeparatingAxes.{box_from_test}
 
 -- ---- tests of lists
 

@@ -1,16 +1,15 @@
 -- Where a triangle is before a box in some direction, it is so in one of a kind: along an axis, across an edge and an axis, or across all edges.
-use Rattle.std.proofs.Common.{◌≡◌, List, [], ◌∷◌, inl, inr, refl, subst, arith, sym, ◌∙◌, ℤ, pos, negsuc, ◌+ℤ◌, ◌-ℤ◌, ◌*ℤ◌, neg_ℤ, ◌≤ℤ◌, ◌<ℤ◌}
-use Rattle.std.specs.Prelude.{◌⊎◌}
+use Rattle.std.proofs.Common.{◌≡◌, List, [], ◌∷◌, inl, inr, refl, subst, arith, sym, ◌∙◌, ℤ, pos, negsuc, ◌-ℤ◌, ◌*ℤ◌, neg_ℤ, ◌≤ℤ◌, ◌<ℤ◌}
 use Rattle.std.proofs.lemmas.Int.{ints, by_lt_z}
 use lib.Signed.{≤ℤ_refl}
 use Rattle.svo_base.specs.declared.shapes.Vector.{Vector}
-use Rattle.octree_specs.specs.Vectors.{vector, dot_of, cross_of, opposite_of}
+use Rattle.octree_specs.specs.Vectors.{vector, dot_of, cross_of}
 use Rattle.octree_specs.proofs.Integers.{product_at_most, neg_ℤ-*ℤ}
 use Rattle.octree_specs.proofs.SignedTerms.{the, plus, minus, times, same}
-use Rattle.octree_specs.proofs.Vectors.{IsZero, IsNonzero, dot_of-zero, opposite_nonzero, cross_of-turned, cross_of-same, unit_x}
+use Rattle.octree_specs.proofs.Vectors.{IsZero, IsNonzero, dot_of-zero, opposite_nonzero, cross_of-turned, cross_of-same}
 use Rattle.octree_specs.proofs.Cones.{Among, Clears}
-use Rattle.tri_cube.proofs.Directions.{IsIn, IsBehind, IsBefore, Each, each_among}
-use Rattle.tri_cube.proofs.Turns.{IsKept, IsPointed, IsSharp, dot_commutes, sharpened}
+use Rattle.tri_cube.proofs.Directions.{IsIn, IsBefore, Each, each_among}
+use Rattle.tri_cube.proofs.Turns.{IsKept, IsPointed, dot_commutes, sharpened}
 
 -- the lower planes are not above the upper ones
 pub record IsBox (lo hi : Vector) : Type 0 where

@@ -1,11 +1,10 @@
 -- Where a first axis separates, a triangle and a cube share no point; where none does, they share one.
-use Rattle.std.proofs.Common.{◌≡◌, ℕ, suc, zero, ◌+◌, ◌<◌, ◌≤◌, Bool, true, false, not, ◌||◌, Option, Some, None, List, [], ◌∷◌, inl, inr, refl, subst, arith, sym, ap, ◌∙◌, lit<}
-use Rattle.std.specs.Prelude.{◌⊎◌, is_some, cond}
+use Rattle.std.proofs.Common.{◌≡◌, ℕ, suc, zero, ◌+◌, ◌<◌, Bool, true, false, not, Some, None, List, [], ◌∷◌, inl, inr, subst, arith, sym, ap, ◌∙◌, lit<}
+use Rattle.std.specs.Prelude.{is_some}
 use Rattle.std.specs.List.{find, range_with_len}
 use Rattle.std.proofs.lemmas.Bool.{or_cases, or_left, or_right, cases_Bool, both_ways, not-true, not_from_false}
 use Rattle.svo_base.specs.declared.shapes.Triangle.{Triangle}
 use Rattle.svo_base.specs.declared.shapes.Cube.{Cube}
-use Rattle.svo_base.specs.declared.shapes.Vector.{Vector}
 use Rattle.octree_specs.specs.Meeting.{Meets}
 use Rattle.octree_specs.specs.Vectors.{opposite_of}
 use Rattle.tri_cube.specs.Axes.{axis_at, separates, first_separating}

@@ -1,8 +1,8 @@
 -- The first good candidate, pair by pair; there is one exactly where the triangle and the cube share a point.
-use Rattle.std.proofs.Common.{◌≡◌, ℕ, suc, zero, ◌+◌, ◌<◌, ◌≤◌, Bool, true, false, ◌||◌, ◌&&◌, Option, Some, None, List, [], ◌∷◌, ◌++◌, length, get_or, refl, subst, arith, sym, ap, ◌∙◌, lit<}
+use Rattle.std.proofs.Common.{◌≡◌, ℕ, suc, zero, ◌<◌, Bool, true, false, ◌||◌, ◌&&◌, Option, Some, None, List, [], ◌∷◌, ◌++◌, length, get_or, refl, subst, arith, sym, ap, ◌∙◌}
 use Rattle.std.specs.Prelude.{IsTrue, ◌↔◌, is_some, cond}
 use Rattle.std.specs.Option.{option_or}
-use Rattle.std.specs.List.{find, list_any, list_all, flat_map, slice_index}
+use Rattle.std.specs.List.{find, list_any, flat_map, slice_index}
 use Rattle.std.proofs.lemmas.Bool.{ltb-true, and_parts, both_ways, true_from_ne_false}
 use lib.Dec.{ltb}
 use Rattle.std.proofs.lemmas.List.{get_or_default}

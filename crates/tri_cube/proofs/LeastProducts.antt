@@ -1,5 +1,5 @@
 -- The least product of a direction with a point of a box tells whether all of the box is farther than a point.
-use Rattle.std.proofs.Common.{◌≡◌, Bool, true, false, inl, inr, refl, arith, sym, ◌∙◌, ℤ, pos, ◌+ℤ◌, ◌*ℤ◌, neg_ℤ, ◌≤ℤ◌, ◌<ℤ◌}
+use Rattle.std.proofs.Common.{◌≡◌, true, false, inl, inr, refl, arith, sym, ◌∙◌, ℤ, pos, ◌+ℤ◌, ◌*ℤ◌, neg_ℤ, ◌≤ℤ◌, ◌<ℤ◌}
 use Rattle.std.specs.Prelude.{◌⊎◌, int_lt}
 use Rattle.std.proofs.lemmas.Int.{ints, by_lt_z}
 use lib.Signed.{≤ℤ_refl}

@@ -1,18 +1,16 @@
 -- A triangle that shares a point with a cube is not before it in any direction.
-use Rattle.std.proofs.Common.{◌≡◌, ℕ, ◌+◌, ◌≤◌, refl, arith, sym, ap, ◌∙◌, ℤ, pos, ◌+ℤ◌, ◌-ℤ◌, ◌*ℤ◌, ◌≤ℤ◌, ◌<ℤ◌}
+use Rattle.std.proofs.Common.{◌≡◌, ℕ, ◌+◌, ◌≤◌, arith, ℤ, pos, ◌+ℤ◌, ◌-ℤ◌, ◌*ℤ◌, ◌≤ℤ◌, ◌<ℤ◌}
 use Rattle.std.proofs.lemmas.Int.{ints, by_lt_z}
 use Rattle.svo_base.specs.declared.shapes.Triangle.{Triangle}
 use Rattle.svo_base.specs.declared.shapes.Cube.{Cube}
 use Rattle.svo_base.specs.declared.shapes.Vector.{Vector}
-use Rattle.octree_specs.specs.Meeting.{Meets, IsBetween, low_of, high_of, weighted}
+use Rattle.octree_specs.specs.Meeting.{Meets, low_of, high_of, weighted}
 use Rattle.octree_specs.specs.Vectors.{vector, dot_of}
 use Rattle.octree_specs.proofs.Integers.{product_at_most, factor_at_most, *ℤ--ℤ}
 use Rattle.octree_specs.proofs.SignedTerms.{the, plus, times, same}
-use Rattle.octree_specs.proofs.Vectors.{mixed}
 use Rattle.tri_cube.specs.Edges.{corner}
 use Rattle.tri_cube.specs.Extents.{Span, span}
 use Rattle.tri_cube.specs.Lines.{least_of}
-use Rattle.tri_cube.proofs.Farkas.{dot_mixed}
 use Rattle.tri_cube.proofs.Directions.{IsIn, IsBefore}
 use Rattle.tri_cube.proofs.DirectionKinds.{IsBox}
 use Rattle.tri_cube.proofs.LeastProducts.{least_in, least_in-at_most, least_below, least_above, behind_says}

@@ -1,5 +1,5 @@
 -- Directions that go the same way: what one says of points, the other says too.
-use Rattle.std.proofs.Common.{◌≡◌, inl, inr, arith, sym, ◌∙◌, ℤ, pos, ◌-ℤ◌, ◌*ℤ◌, neg_ℤ, ◌≤ℤ◌, ◌<ℤ◌}
+use Rattle.std.proofs.Common.{◌≡◌, inl, inr, arith, ◌∙◌, ℤ, pos, ◌-ℤ◌, ◌*ℤ◌, neg_ℤ, ◌≤ℤ◌, ◌<ℤ◌}
 use Rattle.std.specs.Prelude.{◌⊎◌}
 use Rattle.std.proofs.lemmas.Int.{ints, by_lt_z}
 use lib.Signed.{clash_ℤ}

@@ -1,27 +1,26 @@
 -- A triangle and a cube share a point exactly where no test sees them apart, and what a test sees is that an axis separates them.
-use Rattle.std.proofs.Common.{◌≡◌, Bool, true, false, not, ◌&&◌, ◌||◌, List, [], ◌∷◌, inl, inr, refl, subst, arith, sym, ap, ◌∙◌, ℤ, pos, ◌≤ℤ◌, ◌<ℤ◌}
-use Rattle.std.specs.Prelude.{◌⊎◌, ◌↔◌, IsTrue, int_le}
-use Rattle.std.proofs.lemmas.Bool.{and_parts, and_from, or_cases, or_left, or_right, not-true, not_from_false, false_from_ne_true}
+use Rattle.std.proofs.Common.{◌≡◌, Bool, true, ◌||◌, inl, inr, refl, arith, ◌∙◌, pos, ◌<ℤ◌}
+use Rattle.std.specs.Prelude.{◌⊎◌}
+use Rattle.std.proofs.lemmas.Bool.{or_left, or_right}
 use Rattle.std.proofs.lemmas.Int.{ints}
 use Rattle.svo_base.specs.declared.shapes.Triangle.{Triangle}
 use Rattle.svo_base.specs.declared.shapes.Cube.{Cube}
 use Rattle.svo_base.specs.declared.shapes.Vector.{Vector}
-use Rattle.octree_specs.specs.Meeting.{Meets, low_of, high_of}
-use Rattle.octree_specs.specs.Candidates.{rows_of, candidates_of, has_good_candidate}
-use Rattle.octree_specs.specs.Vectors.{vector, dot_of, cross_of, opposite_of}
-use Rattle.octree_specs.proofs.Vectors.{IsZero, IsNonzero, dot_of-zero, unit_x, unit_y, unit_z}
-use Rattle.octree_specs.proofs.Cones.{Clears, HasUnits}
+use Rattle.octree_specs.specs.Meeting.{Meets}
+use Rattle.octree_specs.specs.Candidates.{rows_of, has_good_candidate}
+use Rattle.octree_specs.specs.Vectors.{dot_of}
+use Rattle.octree_specs.proofs.Vectors.{IsNonzero}
 use Rattle.octree_specs.proofs.Candidates.{candidate_from_weights}
 use Rattle.octree_specs.proofs.Meetings.{good_candidates_meet}
-use Rattle.tri_cube.specs.Boxes.{extents_miss, extents_in_order}
+use Rattle.tri_cube.specs.Boxes.{extents_miss}
 use Rattle.tri_cube.specs.Edges.{corner}
-use Rattle.tri_cube.specs.Extents.{Span, span, span_of, spans_miss}
+use Rattle.tri_cube.specs.Extents.{span, span_of, spans_miss}
 use Rattle.tri_cube.specs.Planes.{misses_plane, is_above, is_below}
 use Rattle.tri_cube.specs.Views.{are_seen_apart, box_of, cube_box, plane_of, misses_edges, outline_x, outline_y, outline_z}
 use Rattle.tri_cube.proofs.Farkas.{Cleared}
 use Rattle.tri_cube.proofs.Directions.{IsIn, IsBehind, IsBefore, nine_rows, ones, weights_or_direction}
-use Rattle.tri_cube.proofs.DirectionKinds.{IsBox, Kind, Kind.along_x, Kind.along_y, Kind.along_z, Kind.side_x, Kind.side_y, Kind.side_z, Kind.across_all, HasKind, direction_of_kind, turned}
-use Rattle.tri_cube.proofs.NotBoth.{lowest, highest, box_met, not_both}
+use Rattle.tri_cube.proofs.DirectionKinds.{IsBox, Kind, Kind.along_x, Kind.along_y, Kind.along_z, Kind.side_x, Kind.side_y, Kind.side_z, Kind.across_all, direction_of_kind, turned}
+use Rattle.tri_cube.proofs.NotBoth.{lowest, highest}
 use Rattle.tri_cube.proofs.SeenBoxes.{is_beside, boxes_miss, plane_misses}
 use Rattle.tri_cube.proofs.SeenSides.{misses_seen, misses_by_sides}
 

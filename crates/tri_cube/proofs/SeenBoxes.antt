@@ -1,19 +1,19 @@
 -- The tests by the boxes and by the triangle's plane say in which direction the triangle is before the box, and see each such direction.
-use Rattle.std.proofs.Common.{◌≡◌, Bool, true, false, ◌||◌, inl, inr, refl, subst, arith, sym, ◌∙◌, ℤ, pos, negsuc, ◌+ℤ◌, ◌-ℤ◌, ◌*ℤ◌, neg_ℤ, ◌≤ℤ◌, ◌<ℤ◌}
+use Rattle.std.proofs.Common.{◌≡◌, Bool, true, ◌||◌, inl, inr, refl, subst, arith, sym, ℤ, pos, ◌-ℤ◌, ◌*ℤ◌, neg_ℤ, ◌≤ℤ◌, ◌<ℤ◌}
 use Rattle.std.specs.Prelude.{◌⊎◌, int_lt}
 use Rattle.std.specs.Int.{int_min, int_max}
 use Rattle.std.proofs.lemmas.Bool.{or_cases, or_left, or_right}
 use Rattle.std.proofs.lemmas.Int.{ints, clamps, by_lt_z}
 use lib.Signed.{≤ℤ_refl}
 use Rattle.svo_base.specs.declared.shapes.Vector.{Vector}
-use Rattle.octree_specs.specs.Vectors.{vector, dot_of, cross_of, opposite_of}
+use Rattle.octree_specs.specs.Vectors.{dot_of, cross_of, opposite_of}
 use Rattle.octree_specs.proofs.Integers.{product_at_most, neg_ℤ-*ℤ}
 use Rattle.octree_specs.proofs.SignedTerms.{the, minus, times, same}
 use Rattle.octree_specs.proofs.Vectors.{IsZero, IsNonzero, across_both, cross_of-first, cross_of-second, dot_of-opposite_of, vector_same, unit_x, unit_y, unit_z}
 use Rattle.tri_cube.specs.Extents.{Span, span, span_of, spans_miss}
 use Rattle.tri_cube.proofs.Directions.{IsIn, IsBehind, IsBefore}
 use Rattle.tri_cube.proofs.DirectionKinds.{IsBox, IsAcross, minus_of, dot_of-minus_of}
-use Rattle.tri_cube.proofs.SameWay.{IsSameWay, same_way, same_before}
+use Rattle.tri_cube.proofs.SameWay.{same_way, same_before}
 use Rattle.tri_cube.proofs.LeastProducts.{least_in, greatest_in, greatest_in-is, less_test, test_less, behind_from, behind_says}
 
 -- ---- boxes

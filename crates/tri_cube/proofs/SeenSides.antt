@@ -1,5 +1,5 @@
 -- A box is on the outer side of an edge, as both are seen along x, exactly where the triangle is before it in a direction across that edge and x.
-use Rattle.std.proofs.Common.{◌≡◌, Bool, true, false, ◌&&◌, ◌||◌, inl, inr, refl, arith, sym, ap, ◌∙◌, ℤ, pos, ◌+ℤ◌, ◌-ℤ◌, ◌*ℤ◌, neg_ℤ, ◌≤ℤ◌, ◌<ℤ◌}
+use Rattle.std.proofs.Common.{◌≡◌, Bool, true, false, ◌&&◌, ◌||◌, inl, inr, refl, arith, sym, ◌∙◌, ℤ, pos, ◌+ℤ◌, ◌-ℤ◌, ◌*ℤ◌, neg_ℤ, ◌≤ℤ◌}
 use Rattle.std.specs.Prelude.{◌⊎◌, int_le, int_lt}
 use Rattle.std.proofs.lemmas.Bool.{and_parts, and_from, or_cases, or_left, or_right}
 use Rattle.std.proofs.lemmas.Int.{ints}
@@ -9,11 +9,11 @@ use Rattle.octree_specs.proofs.SignedTerms.{the, plus, minus, times, same}
 use Rattle.octree_specs.proofs.Vectors.{IsZero, IsNonzero, dot_of-opposite_of}
 use Rattle.tri_cube.specs.declared.outlines.Seen.{Seen}
 use Rattle.tri_cube.specs.Extents.{Span, span}
-use Rattle.tri_cube.specs.Lines.{line, least_of, greatest_of, is_beyond, is_short}
+use Rattle.tri_cube.specs.Lines.{least_of, greatest_of, is_beyond, is_short}
 use Rattle.tri_cube.specs.Outlines.{line_of, area_of, outline_of, misses_outline}
-use Rattle.tri_cube.proofs.Directions.{IsBehind, IsBefore}
+use Rattle.tri_cube.proofs.Directions.{IsBefore}
 use Rattle.tri_cube.proofs.DirectionKinds.{IsBox, IsSide, Sides, Sides.on_first, Sides.on_second, Sides.on_third, area_turned, before_turned}
-use Rattle.tri_cube.proofs.SameWay.{IsSameWay, same_way, same_most, same_before}
+use Rattle.tri_cube.proofs.SameWay.{same_way, same_most, same_before}
 use Rattle.tri_cube.proofs.LeastProducts.{greatest_is, least_none, least_in, less_test, test_less, behind_from, behind_says}
 
 -- a vector as it is seen along x

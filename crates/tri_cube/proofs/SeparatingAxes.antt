@@ -1,5 +1,5 @@
 -- What the tests see is that one of the thirteen axes separates the triangle and the cube; so one of them does, or the two share a point.
-use Rattle.std.proofs.Common.{◌≡◌, ℕ, ◌<◌, Bool, true, false, not, ◌&&◌, ◌||◌, inl, inr, refl, subst, arith, sym, lit<, ◌∙◌, ℤ, pos, ◌+ℤ◌, ◌-ℤ◌, ◌*ℤ◌, neg_ℤ, ◌≤ℤ◌}
+use Rattle.std.proofs.Common.{◌≡◌, ℕ, ◌<◌, Bool, true, not, ◌&&◌, ◌||◌, inl, inr, refl, subst, arith, sym, lit<, ◌∙◌, ℤ, pos, ◌-ℤ◌, neg_ℤ, ◌≤ℤ◌}
 use Rattle.std.specs.Prelude.{◌⊎◌, ◌↔◌, IsTrue, int_le}
 use Rattle.std.proofs.lemmas.Bool.{and_parts, and_from, or_cases, not-true, not_from_false, false_from_ne_true, both_ways}
 use Rattle.std.proofs.lemmas.Int.{ints}
@@ -12,14 +12,14 @@ use Rattle.octree_specs.proofs.Vectors.{vector_same, unit_x, unit_y, unit_z}
 use Rattle.case_table.specs.CaseLists.{axis_case_list}
 use Rattle.tri_cube.specs.Axes.{axis_at}
 use Rattle.tri_cube.specs.Boxes.{extents_in_order}
-use Rattle.tri_cube.specs.Edges.{corner, edge_of}
+use Rattle.tri_cube.specs.Edges.{corner}
 use Rattle.tri_cube.specs.Views.{are_seen_apart, cube_box}
 use Rattle.tri_cube.specs.Extents.{span, span_of, spans_miss}
 use Rattle.tri_cube.proofs.Directions.{IsBefore}
 use Rattle.tri_cube.proofs.DirectionKinds.{IsBox, turned}
 use Rattle.tri_cube.proofs.NotBoth.{lowest, highest, box_met, not_both}
-use Rattle.tri_cube.proofs.SeenApart.{seen_apart, seen_apart_is, axes_turned, met_or_seen}
-use Rattle.tri_cube.proofs.SeenBoxes.{IsAxis, axis_x, axis_y, axis_z, boxes_say, across, is_beside, plane_says}
+use Rattle.tri_cube.proofs.SeenApart.{seen_apart_is, axes_turned, met_or_seen}
+use Rattle.tri_cube.proofs.SeenBoxes.{axis_x, axis_y, axis_z, boxes_say, across, is_beside, plane_says}
 use Rattle.tri_cube.proofs.SeenSides.{side_of, misses_seen, SideApart, SideApart.by_first, SideApart.by_second, SideApart.by_third, BeforeSide, sides_seen}
 
 -- the triangle is before the cube along the vector, or along its opposite

@@ -1,13 +1,12 @@
 -- A direction that clears some rows, and is behind on a target, is turned until it is across two of the rows that are not on one line.
-use Rattle.std.proofs.Common.{◌≡◌, List, inl, inr, arith, sym, ◌∙◌, ℤ, pos, ◌+ℤ◌, ◌*ℤ◌, neg_ℤ, ◌≤ℤ◌, ◌<ℤ◌}
-use Rattle.std.specs.Prelude.{◌⊎◌}
+use Rattle.std.proofs.Common.{◌≡◌, List, inl, inr, arith, sym, ◌∙◌, ℤ, pos, ◌*ℤ◌, neg_ℤ, ◌≤ℤ◌, ◌<ℤ◌}
 use Rattle.std.proofs.lemmas.Int.{ints, by_lt_z}
 use Rattle.svo_base.specs.declared.shapes.Vector.{Vector}
 use Rattle.octree_specs.specs.Vectors.{dot_of, cross_of, opposite_of}
 use Rattle.octree_specs.proofs.Integers.{product_negative, product_not_positive, factor_zero}
 use Rattle.octree_specs.proofs.SignedTerms.{the, plus, times, same}
 use Rattle.octree_specs.proofs.Vectors.{IsZero, IsNonzero, mixed, dot_of-mixed, norm_positive, cross_of-first, cross_of-second, triple_product, dot_of-opposite_of, dot_of-zero, opposite_nonzero, unit_x}
-use Rattle.octree_specs.proofs.Cones.{Among, Clears, IsFirst, IsStep, first_or_none, step_to}
+use Rattle.octree_specs.proofs.Cones.{Among, Clears, IsFirst, first_or_none, step_to}
 use Rattle.octree_specs.proofs.Along.{IsAlong, along, products_along}
 
 pub dot_commutes : (a b : Vector) → dot_of a b ≡ dot_of b a

@@ -1,5 +1,5 @@
 -- How far a triangle and a cube go along an axis, and when the boxes of the two miss each other.
-use Rattle.std.specs.Prelude.{ℕ, ◌≤◌, ℤ, pos, unsigned_abs, int_lt, Bool, ◌||◌}
+use Rattle.std.specs.Prelude.{ℕ, ◌≤◌, ℤ, unsigned_abs, int_lt, Bool, ◌||◌}
 use Rattle.std.specs.Int.{int_min, int_max}
 use Rattle.svo_base.specs.declared.shapes.Cube.{Cube}
 use Rattle.octree_specs.specs.Meeting.{low_of, high_of}

@@ -1,7 +1,6 @@
 -- Where no axis separates there is a good candidate.
-use Rattle.std.proofs.Common.{◌≡◌, Some, sym, ap, ◌∙◌, arith, to_z-of_z}
+use Rattle.std.proofs.Common.{Some, sym, ap, ◌∙◌, arith, to_z-of_z}
 use Rattle.std.proofs.lemmas.Int.{ints}
-use Rattle.octree_specs.specs.Vectors.{vector}
 use Rattle.octree_specs.proofs.Vectors.{vector_same}
 use Rattle.tri_cube.proofs.FirstAxis.{one_is_found, unseparated_met}
 use Rattle.tri_cube.proofs.verdicts.shared_point.Goals as goal
