@@ -44,7 +44,7 @@ pub record IsFirst (w u : Vector) (rows : List Vector) (row : Vector) : Type 0 w
   pub least : (r : Vector) → Among rows r → dot_of u r <ℤ pos 0 → (dot_of w row *ℤ neg_ℤ (dot_of u r)) ≤ℤ (dot_of w r *ℤ neg_ℤ (dot_of u row))
 
 -- there is such a row, or no product falls
-abbrev FirstOrNone : Vector → Vector → List Vector → Type 0
+abbrev pub FirstOrNone : Vector → Vector → List Vector → Type 0
 FirstOrNone w u rows = ((r : Vector) → Among rows r → pos 0 ≤ℤ dot_of u r) ⊎ ((row : Vector) × IsFirst w u rows row)
 
 -- one more row in front
@@ -109,7 +109,7 @@ one_more w u x rows (inr found) =
     above : (a : ℤ) → a <ℤ pos 0 → pos 0 <ℤ neg_ℤ a
     above a below = omega (arith, ints, below)
 
-first_or_none : (w u : Vector) (rows : List Vector) → FirstOrNone w u rows
+pub first_or_none : (w u : Vector) (rows : List Vector) → FirstOrNone w u rows
 first_or_none w u [] = inl (λ r among. absurd among)
 first_or_none w u (x ∷ rows) = one_more w u x rows (first_or_none w u rows)
 
@@ -124,7 +124,7 @@ pub record IsStep (w u : Vector) (rows : List Vector) (to row : Vector) : Type 0
   pub level : dot_of to row ≡ pos 0
   pub keeps : (r : Vector) → dot_of w r ≡ pos 0 → dot_of u r ≡ pos 0 → dot_of to r ≡ pos 0
 
-step_to : (w u : Vector) (rows : List Vector) (row : Vector) → Clears rows w → IsNonzero (cross_of w u) → IsFirst w u rows row → IsStep w u rows (mixed (neg_ℤ (dot_of u row)) w (dot_of w row) u) row
+pub step_to : (w u : Vector) (rows : List Vector) (row : Vector) → Clears rows w → IsNonzero (cross_of w u) → IsFirst w u rows row → IsStep w u rows (mixed (neg_ℤ (dot_of u row)) w (dot_of w row) u) row
 step_to w u rows row given differ is = record {
   among = is.among;
   falls = is.falls;

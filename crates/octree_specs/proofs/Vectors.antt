@@ -154,7 +154,7 @@ across_differs w r some_w some_r level none =
 pub dot_of-opposite_of : (a r : Vector) → dot_of (opposite_of a) r ≡ neg_ℤ (dot_of a r)
 dot_of-opposite_of a r = omega (arith, ints, neg_ℤ-*ℤ a.x r.x, neg_ℤ-*ℤ a.y r.y, neg_ℤ-*ℤ a.z r.z)
 
-vector_same : (x y z p q r : ℤ) → x ≡ p → y ≡ q → z ≡ r → vector x y z ≡ vector p q r
+pub vector_same : (x y z p q r : ℤ) → x ≡ p → y ≡ q → z ≡ r → vector x y z ≡ vector p q r
 vector_same x y z p q r e f g = rw (e, f, g) refl
 
 turned_minor : (p q r s : ℤ) → ((p *ℤ q) -ℤ (r *ℤ s)) ≡ neg_ℤ ((s *ℤ r) -ℤ (q *ℤ p))

@@ -1,2 +1,15 @@
-pub mod Combinations
-pub mod Joined
+pub mod CornerProducts
+pub mod Directions
+pub mod Farkas
+pub mod FirstAxis
+pub mod FirstGood
+pub mod DirectionKinds
+pub mod LeastProducts
+pub mod NotBoth
+pub mod SameWay
+pub mod SeenApart
+pub mod SeenBoxes
+pub mod SeenSides
+pub mod SeparatingAxes
+pub mod Turns
+pub mod WorkedAxes

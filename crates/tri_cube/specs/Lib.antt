@@ -1,3 +1,13 @@
-pub mod Apart
-pub mod Pairs
+pub mod Axes
+pub mod Boxes
+pub mod Edges
+pub mod Extents
+pub mod Lines
+pub mod Outlines
+pub mod CandidatesInTurn
+pub mod Planes
+pub mod Prepared
+pub mod SeenAlong
 pub mod Sides
+pub mod Verdicts
+pub mod Views

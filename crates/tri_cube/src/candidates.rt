@@ -1,46 +1,78 @@
-//! Whether one of the candidates is good. Candidates are the cross products of two rows, and their
+//! The first candidate that is good. Candidates are the cross products of two rows, and their
 //! opposites, as weights of a triangle's corners.
 
-ghost use Rattle.std.specs.Prelude.{◌≡◌, ◌++◌, ◌^◌, ◌&&◌, pos, int_le};
-ghost use Rattle.std.specs.List.{list_all, list_any};
+ghost use Rattle.std.specs.Prelude.{◌≡◌, ◌++◌, ◌^◌, ◌&&◌, ◌<◌, [], pos, int_le, slice_index_or};
+ghost use Rattle.std.specs.List.{find, flat_map, list_all};
+ghost use Rattle.case_table.specs.CaseLists.{row_pair_list};
+ghost use Rattle.octree_specs.specs.Meeting.{HasPlanes};
 ghost use Rattle.octree_specs.specs.Vectors.{IsWithin, dot_of, is_zero_vector};
-ghost use Rattle.octree_specs.specs.Candidates.{candidates_of, is_good};
-ghost use Rattle.tri_cube.specs.Pairs.{has_good_pair};
+ghost use Rattle.octree_specs.specs.Candidates.{is_good};
+ghost use Rattle.tri_cube.specs.CandidatesInTurn.{candidates_at, candidates_by_case, first_good};
 ghost use Rattle.tri_cube.specs.Sides.{unit_rows};
 
 use crate::narrow::NarrowVector;
 use crate::products::{cross, dot, opposite};
-use svo_base::Vector;
+use crate::rows::{sides, with_units};
+use case_table::{Cases, row_pairs};
+use svo_base::{Cube, Triangle, Vector};
 
-/// Whether a candidate that is made of two of these rows is good.
-#[tactic(auto, using(crate::proofs::Joined::joined))]
-pub fn has_good(rows: &[NarrowVector], sides: &[NarrowVector]) -> bool
-    ensures { result ≡ list_any (is_good (unit_rows ++ sides.now)) (candidates_of rows.now) }
+/// The first candidate of a triangle and a cube that is good.
+pub fn first_good_weights(triangle: &Triangle, cube: &Cube) -> Option<Vector>
+    requires { HasPlanes cube.now }
+    ensures { result ≡ first_good triangle.now cube.now }
 {
-    match rows.split_first() {
-        Some((first, later)) => has_good_with(first, later, sides) || has_good(later, sides),
-        None => false,
+    let sides = sides(triangle, cube);
+    first_good_of(&with_units(&sides), &sides)
+}
+
+/// The first good candidate, pair by pair of the rows.
+fn first_good_of(rows: &[NarrowVector; 9], sides: &[NarrowVector; 6]) -> Option<Vector>
+    ensures { result ≡ find (is_good (unit_rows ++ sides.now)) (flat_map (candidates_by_case rows.now) row_pair_list) }
+{
+    let pairs = row_pairs();
+    for place in 0..36 {
+        let found = good_at(&pairs, place, rows, sides);
+        if found.is_some() {
+            return found;
+        }
+    }
+    None
+}
+
+/// The first of the two candidates of the pair at a place that is good.
+#[tactic(auto, unfolding(crate::specs::CandidatesInTurn::candidates_by_case))]
+fn good_at(
+    pairs: &Cases<36>,
+    place: usize,
+    rows: &[NarrowVector; 9],
+    sides: &[NarrowVector; 6],
+) -> Option<Vector>
+    requires pairs { pairs.now ≡ row_pair_list }
+    requires place { place < 36 }
+    ensures { result ≡ find (is_good (unit_rows ++ sides.now)) (candidates_by_case rows.now (slice_index_or row_pair_list place [])) }
+{
+    let [i, j, _] = pairs.get(place);
+    good_of(&rows[usize::from(i)], &rows[usize::from(j)], sides)
+}
+
+/// The first of the two candidates of a pair of rows that is good.
+fn good_of(a: &NarrowVector, b: &NarrowVector, sides: &[NarrowVector; 6]) -> Option<Vector>
+    ensures { result ≡ find (is_good (unit_rows ++ sides.now)) (candidates_at a.now b.now) }
+{
+    let weights = cross(a, b);
+    if are_good(&weights, sides) {
+        return Some(weights);
+    }
+    let turned = opposite(&weights);
+    if are_good(&turned, sides) {
+        Some(turned)
+    } else {
+        None
     }
 }
 
-/// Whether a candidate that is made of a row and one of these later rows is good.
-fn has_good_with(row: &NarrowVector, later: &[NarrowVector], sides: &[NarrowVector]) -> bool
-    ensures { result ≡ list_any (has_good_pair sides.now row.now) later.now }
-{
-    later.iter().any(|other| has_good_of(row, other, sides))
-}
-
-/// Whether one of the two candidates that are made of two rows is good.
-#[tactic(auto, unfolding(crate::specs::Pairs::has_good_pair))]
-fn has_good_of(a: &NarrowVector, b: &NarrowVector, sides: &[NarrowVector]) -> bool
-    ensures { result ≡ has_good_pair sides.now a.now b.now }
-{
-    let weights = cross(a, b);
-    are_good(&weights, sides) || are_good(&opposite(&weights), sides)
-}
-
 /// Whether weights are not all zero, none of them is negative, and they clear all sides.
-fn are_good(weights: &Vector, sides: &[NarrowVector]) -> bool
+fn are_good(weights: &Vector, sides: &[NarrowVector; 6]) -> bool
     requires { IsWithin (2 ^ 69) weights.now }
     ensures { result ≡ is_good (unit_rows ++ sides.now) weights.now }
 {
@@ -69,7 +101,7 @@ fn is_zero(weights: &Vector) -> bool
 }
 
 /// Whether weights clear all sides.
-fn clears(weights: &Vector, sides: &[NarrowVector]) -> bool
+fn clears(weights: &Vector, sides: &[NarrowVector; 6]) -> bool
     requires { IsWithin (2 ^ 69) weights.now }
     ensures { result ≡ list_all (λ row. int_le (pos 0) (dot_of weights.now row)) sides.now }
 {

@@ -4,13 +4,19 @@
 #![tactic(auto)]
 
 mod candidates;
+mod extents;
 mod meeting;
 mod narrow;
+mod outlines;
+mod planes;
+mod prepared;
 mod products;
 mod rows;
-mod separation;
+mod verdicts;
 
-pub use meeting::overlaps;
+pub use meeting::{overlaps, overlaps_by_candidates};
+pub use prepared::PreparedTriangle;
+pub use verdicts::{Verdict, why};
 
 #[cfg(test)]
 mod tests;

@@ -4,6 +4,7 @@ ghost use Rattle.std.specs.Prelude.{◌≡◌, ◌^◌, ◌≤◌, unsigned_abs}
 ghost use Rattle.octree_specs.specs.Vectors.{IsWithin, vector};
 
 use std::marker::Model;
+use svo_base::Vector;
 
 /// A vector whose numbers have a size of at most 2^34.
 #[derive(Clone, Copy)]
@@ -58,5 +59,17 @@ impl NarrowVector {
         ensures within { unsigned_abs result ≤ 2 ^ 34 }
     {
         self.z
+    }
+
+    /// The same vector in 128 bits.
+    pub fn widened(&self) -> Vector
+        ensures value { result ≡ self.now }
+        ensures within { IsWithin (2 ^ 34) result }
+    {
+        Vector {
+            x: i128::from(self.x),
+            y: i128::from(self.y),
+            z: i128::from(self.z),
+        }
     }
 }

@@ -1,10 +1,18 @@
-//! Products of vectors, in 128 bits.
+//! Differences of coordinates, and products of vectors, which are in 128 bits.
 
 ghost use Rattle.std.specs.Prelude.{◌≡◌, ◌^◌, ◌≤◌, ◌+ℤ◌, ◌-ℤ◌, ◌*ℤ◌, unsigned_abs};
 ghost use Rattle.octree_specs.specs.Vectors.{IsWithin, cross_of, dot_of, opposite_of};
 
 use crate::narrow::NarrowVector;
 use svo_base::Vector;
+
+/// From one coordinate to another.
+pub fn step(from: i32, to: i32) -> i64
+    ensures value { result ≡ to -ℤ from }
+    ensures within { unsigned_abs result ≤ 2 ^ 33 }
+{
+    i64::from(to) - i64::from(from)
+}
 
 /// The cross product.
 pub fn cross(a: &NarrowVector, b: &NarrowVector) -> Vector
@@ -33,7 +41,8 @@ fn minor(a: i64, b: i64, c: i64, d: i64) -> i128
 /// The scalar product.
 pub fn dot(a: &Vector, b: &NarrowVector) -> i128
     requires { IsWithin (2 ^ 69) a.now }
-    ensures { result ≡ dot_of a.now b.now }
+    ensures value { result ≡ dot_of a.now b.now }
+    ensures within { unsigned_abs result ≤ 2 ^ 105 }
 {
     dot_xy(a, b) + scaled(a.z, b.z())
 }
@@ -48,7 +57,7 @@ fn dot_xy(a: &Vector, b: &NarrowVector) -> i128
 }
 
 /// The product of two numbers of narrow vectors.
-fn wide_product(a: i64, b: i64) -> i128
+pub fn wide_product(a: i64, b: i64) -> i128
     requires a_in { unsigned_abs a ≤ 2 ^ 34 }
     requires b_in { unsigned_abs b ≤ 2 ^ 34 }
     ensures value { result ≡ a *ℤ b }
@@ -58,7 +67,7 @@ fn wide_product(a: i64, b: i64) -> i128
 }
 
 /// The product of a number of a vector and one of a narrow vector.
-fn scaled(a: i128, b: i64) -> i128
+pub fn scaled(a: i128, b: i64) -> i128
     requires a_in { unsigned_abs a ≤ 2 ^ 69 }
     requires b_in { unsigned_abs b ≤ 2 ^ 34 }
     ensures value { result ≡ a *ℤ b }

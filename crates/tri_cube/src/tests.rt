@@ -3,7 +3,7 @@
 ghost use Rattle.std.specs.Prelude.{◌≡◌, ◌^◌, ◌<◌, ◌≤◌, unsigned_abs};
 ghost use Rattle.octree_specs.specs.Meeting.{HasPlanes};
 
-use super::overlaps;
+use super::{Verdict, overlaps, overlaps_by_candidates, why};
 use std::marker::Brand;
 use std::sync::ledger::{Blank, Ledger};
 use svo_base::{Cube, Point, Steps, Triangle};
@@ -179,6 +179,12 @@ const CASES: &[(&str, Corners, Planes, bool)] = &[
         false,
     ),
     (
+        "planes in the wrong order",
+        FLAT,
+        ([1, 0, 0], [0, 1, 1]),
+        false,
+    ),
+    (
         "the farthest point",
         WHOLE,
         ([FAR, FAR, FAR], [FAR, FAR, FAR]),
@@ -192,23 +198,154 @@ const CASES: &[(&str, Corners, Planes, bool)] = &[
     ),
 ];
 
+/// What the first axis is that separates, or the first good weights.
+const REASONS: &[(&str, Corners, Planes, Verdict)] = &[
+    (
+        "only the triangle's plane separates",
+        SLANTED,
+        UNIT,
+        Verdict::Apart(3),
+    ),
+    (
+        "only an edge separates, with z",
+        [[4, 1, 1], [1, 4, 1], [4, 4, 1]],
+        TWO,
+        Verdict::Apart(6),
+    ),
+    (
+        "a segment through the cube",
+        [[-1, 1, 1], [3, 1, 1], [3, 1, 1]],
+        TWO,
+        Verdict::Meets(3, 0, 1),
+    ),
+    (
+        "a point before the cube along each axis",
+        [[0, 0, 0], [0, 0, 0], [0, 0, 0]],
+        ([1, 1, 1], [2, 2, 2]),
+        Verdict::Apart(0),
+    ),
+    (
+        "a point before the cube along y",
+        [[0, 0, 0], [0, 0, 0], [0, 0, 0]],
+        ([0, 1, 0], [1, 2, 1]),
+        Verdict::Apart(1),
+    ),
+];
+
+/// Coordinates near each other, and the least and the greatest.
+const COORDINATES: [i32; 8] = [MIN, -3, -1, 0, 1, 2, MAX - 1, MAX];
+
+/// Planes among them, and the farthest.
+const PLANES: [i64; 8] = [-FAR, LOW, -2, 0, 1, 2, HIGH, FAR];
+
 #[test]
 fn shared_points_are_seen(rt: HostRuntime) {
     for (name, corners, (lo, hi), expected) in CASES {
-        assert_eq!(rt; meets(*corners, &cube(lo, hi)), *expected, "{name}");
+        let triangle = triangle(*corners);
+        let cube = cube(lo, hi);
+        assert_eq!(rt; meets(&triangle, &cube), *expected, "{name}");
+        assert_eq!(rt;
+            overlaps_by_candidates(&triangle, &cube),
+            *expected,
+            "{name}"
+        );
     }
 }
 
-fn meets(corners: Corners, cube: &Cube) -> bool
+#[test]
+fn reasons_are_given(rt: HostRuntime) {
+    for (name, corners, (lo, hi), expected) in REASONS {
+        assert_eq!(rt;
+            why(&triangle(*corners), &cube(lo, hi)),
+            *expected,
+            "{name}"
+        );
+    }
+}
+
+/// Triangles that are points, segments or flat as seen along an axis come up often, and cubes whose
+/// planes are in the wrong order.
+#[test]
+fn all_bodies_agree(rt: HostRuntime) {
+    let mut picker = Picker { seed: 7 };
+    for _ in 0..20_000 {
+        let far = triangle([picker.corner(), picker.corner(), picker.corner()]);
+        assert!(rt; agree(&far, &cube(&picker.planes(), &picker.planes())));
+        let near = triangle([picker.near(), picker.near(), picker.near()]);
+        assert!(rt; agree(&near, &picker.near_cube()));
+    }
+}
+
+/// Whether the prepared triangle, the candidates and the reason say the same.
+fn agree(triangle: &Triangle, cube: &Cube) -> bool
     requires { HasPlanes cube.now }
 {
-    let [a, b, c] = corners;
-    let triangle = Triangle {
-        a: point(a),
-        b: point(b),
-        c: point(c),
-    };
-    counted::<Brand>(&triangle, cube, Blank::new(1))
+    let shared = overlaps_by_candidates(triangle, cube);
+    let explained = matches!(why(triangle, cube), Verdict::Meets(_, _, _));
+    meets(triangle, cube) == shared && explained == shared
+}
+
+/// Numbers from a fixed generator.
+#[derive(Drop)]
+struct Picker {
+    seed: u64,
+}
+
+impl Picker {
+    /// A number below 8.
+    fn pick(&mut self) -> usize
+        ensures { result < 8 }
+    {
+        self.seed = self
+            .seed
+            .wrapping_mul(6_364_136_223_846_793_005)
+            .wrapping_add(1_442_695_040_888_963_407);
+        (self.seed >> 61) as usize
+    }
+
+    fn corner(&mut self) -> [i32; 3] {
+        [
+            COORDINATES[self.pick()],
+            COORDINATES[self.pick()],
+            COORDINATES[self.pick()],
+        ]
+    }
+
+    /// A coordinate from -4 to 3.
+    fn small(&mut self) -> i32
+        ensures { unsigned_abs result ≤ 4 }
+    {
+        self.pick() as i32 - 4
+    }
+
+    fn near(&mut self) -> [i32; 3] {
+        [self.small(), self.small(), self.small()]
+    }
+
+    /// A cube of side 0 to 3.
+    fn near_cube(&mut self) -> Cube
+        ensures { HasPlanes result }
+    {
+        let side = self.pick() as i64 / 2;
+        let x = i64::from(self.small());
+        let y = i64::from(self.small());
+        let z = i64::from(self.small());
+        cube(&[x, y, z], &[x + side, y + side, z + side])
+    }
+
+    fn planes(&mut self) -> [i64; 3] {
+        [
+            PLANES[self.pick()],
+            PLANES[self.pick()],
+            PLANES[self.pick()],
+        ]
+    }
+}
+
+fn meets(triangle: &Triangle, cube: &Cube) -> bool
+    requires { HasPlanes cube.now }
+{
+    counted::<Brand>(triangle, cube, Blank::new(1))
 }
 
 fn counted<L: Ledger>(triangle: &Triangle, cube: &Cube, blank: Blank) -> bool
@@ -219,6 +356,15 @@ fn counted<L: Ledger>(triangle: &Triangle, cube: &Cube, blank: Blank) -> bool
 {
     let mut tests = Steps::<L>::new(blank);
     overlaps(triangle, cube, &mut tests)
+}
+
+fn triangle(corners: Corners) -> Triangle {
+    let [a, b, c] = corners;
+    Triangle {
+        a: point(a),
+        b: point(b),
+        c: point(c),
+    }
 }
 
 fn point(at: [i32; 3]) -> Point {

@@ -3,5 +3,8 @@ use Rattle.std.proofs.Common.{arith, to_z-of_z}
 use Rattle.std.proofs.lemmas.Int.{ints}
 use Rattle.tri_cube.proofs.products.dot.Goals as goal
 
-pub returns : goal.returns
-returns c = grind (arith, ints, to_z-of_z)
+pub returns-clause-value : goal.returns-clause-value
+returns-clause-value c = grind (arith, ints, to_z-of_z)
+
+pub returns-clause-within : goal.returns-clause-within
+returns-clause-within c = grind (arith, ints, to_z-of_z)

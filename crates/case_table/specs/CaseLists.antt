@@ -1,0 +1,16 @@
+-- The lists that the tables hold. A case is three small numbers.
+use Rattle.std.specs.Prelude.{ℕ, ◌+◌, ◌-◌, List, [], ◌∷◌, ◌++◌, map}
+use Rattle.std.specs.List.{flat_map, range_with_len}
+
+abbrev pub case : ℕ → ℕ → ℕ → List ℕ
+case i j k = i ∷ j ∷ k ∷ []
+
+-- each two of nine rows, as `case i j 0` with i below j, in order
+unfoldable pub row_pair_list : List (List ℕ)
+row_pair_list = flat_map (λ i. map (λ j. case i j 0) (range_with_len (i + 1) (8 - i))) (range_with_len 0 9)
+
+-- the axes that may separate a triangle and a cube: `case 0 0 k` is the unit vector k, `case 1 0 0` the triangle's normal, and `case 2 i k` the product of edge i and the unit vector k
+unfoldable pub axis_case_list : List (List ℕ)
+axis_case_list =
+    map (λ k. case 0 0 k) (range_with_len 0 3)
+    ++ case 1 0 0 ∷ flat_map (λ i. map (λ k. case 2 i k) (range_with_len 0 3)) (range_with_len 0 3)
