@@ -5,6 +5,7 @@ pub mod CallLaws
 pub mod Callers
 pub mod CappedSizes
 pub mod DigitRuns
+pub mod FixedNumbers
 pub mod Lines
 pub mod NumeralCases
 pub mod NumeralLaws

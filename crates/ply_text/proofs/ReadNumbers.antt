@@ -1,5 +1,5 @@
 -- What was read of a token, part by part, and the number that it spells.
-use Rattle.std.proofs.Common.{◌≡◌, ℕ, ◌+◌, ◌/◌, ◌%◌, ◌^◌, ◌<◌, ◌≤◌, Bool, true, false, ◌==◌, List, [], ◌++◌, length, refl, sym, ap, ◌∙◌, subst, arith, lit<, ⊎_elim, lt_of_lt_of_le, Option, None, Some, IfSome, Result, Err, Ok, ℤ, unwrap_or, option_copied, Bor, length-append, nat_lt, if◌then◌else◌}
+use Rattle.std.proofs.Common.{◌≡◌, ℕ, ◌+◌, ◌*◌, ◌/◌, ◌%◌, ◌^◌, ◌<◌, ◌≤◌, Bool, true, false, ◌==◌, List, [], ◌++◌, length, refl, sym, ap, ◌∙◌, subst, arith, lit<, ⊎_elim, lt_of_lt_of_le, Option, None, Some, IfSome, Result, Err, Ok, ℤ, unwrap_or, option_copied, Bor, length-append, append-nil, nat_lt, if◌then◌else◌}
 use Rattle.std.specs.Str.Parse.{AllDigits, digits_value}
 use Rattle.std.proofs.Math.Nat.{pow-le-pow_right}
 use Rattle.std.proofs.lemmas.Bool.{cases_lt, lt-ltb, cond-true}
@@ -9,12 +9,12 @@ use Rattle.ply_text.specs.declared.numbers.NumberFault.TheVariants.{BadNumber, O
 use Rattle.ply_text.specs.declared.numerals.Parts.{Parts}
 use Rattle.ply_text.specs.declared.numerals.Sign.{Sign}
 use Rattle.ply_text.specs.declared.numerals.Sign.TheVariants.{Unsigned, Plus, Minus}
-use Rattle.ply_text.specs.Numerals.{Exponent, Numeral, IsExponentDigits, IsExponent, sign_text, fraction_text, exponent_text, spelled, fraction_digits}
+use Rattle.ply_text.specs.Numerals.{Exponent, Numeral, IsNumeral, IsExponentDigits, IsExponent, sign_text, fraction_text, exponent_text, spelled, fraction_digits}
 use Rattle.ply_text.specs.NumeralParts.{HasNoSign, SpellsNoCount, SpellsTens, SpellsNoTens, SpellsParts, SpellsNoNumeral, IsWithinBounds, parts_top, parts_bottom, capped}
 use Rattle.ply_text.specs.Scaled.{unless_minus, if_minus, tens_up, tens_down, top_of, bottom_of, signed, settled, number_of, ReadsNumber}
 use Rattle.ply_text.proofs.DigitRuns.{AllDigits-append}
 use Rattle.ply_text.proofs.NumeralLaws.{signs_agree, digits_no_sign, in_order, IsSplit, parts_agree}
-use Rattle.ply_text.proofs.WholeTokens.{IsWhole}
+use Rattle.ply_text.proofs.WholeTokens.{IsWhole, IsRead}
 
 -- the digits of an exponent are a whole number of at most 9999
 pub power_is_whole : (ds : List ℕ) → IsExponentDigits ds → IsWhole ds × (digits_value 10 ds ≤ 9999)
@@ -128,12 +128,34 @@ number_read token parts decimals size is_whole cut result s size_is whole_is res
       missing = λ bad. absurd (settled_number parts.sign size is_whole cut (sym result_is ∙ bad));
     }
 
+-- digits behind a sign are a whole number
+pub whole_read : (token text : List ℕ) (sign : Sign) (decimals size scaled : ℕ) (cut : Bool) (result : Result ℤ NumberFault) → token ≡ sign_text sign ++ text
+    → IsRead text (2 ^ 30) size → scaled ≡ capped (size * 10 ^ decimals) → result ≡ settled sign scaled true cut → ReadsNumber token decimals cut result
+unfolding number_of spelled
+whole_read token text sign decimals size scaled cut result token_is read scaled_is result_is =
+    let n : Numeral = record { sign = sign; whole = text; fraction = None; exponent = None } in
+    let text_is : token ≡ spelled n = token_is ∙ sym (append-nil (sign_text sign ++ text)) ∙ sym (append-nil ((sign_text sign ++ text) ++ [])) in
+    let good : IsNumeral n = record { whole = read.whole.digits; fraction = tt; some = omega (arith, read.whole.some); exponent = tt } in
+    let digits : digits_value 10 (text ++ []) ≡ size = ap (digits_value 10) (append-nil text) ∙ sym read.number in
+    let tens : decimals + 0 ≡ decimals = omega arith in
+    let top : top_of n decimals ≡ size * 10 ^ decimals = rw (digits, tens) refl in
+    let all : top_of n decimals / bottom_of n ≡ size * 10 ^ decimals = omega (arith, top) in
+    let whole : top_of n decimals % bottom_of n ≡ 0 = omega arith in
+    let tests : (top_of n decimals % bottom_of n == 0) ≡ true = ap (λ k. k == 0) whole in
+    let number : result ≡ number_of n decimals cut =
+    result_is ∙ ap (λ k. settled sign k true cut) scaled_is ∙ settled_capped sign (size * 10 ^ decimals) true cut
+    ∙ ap (λ k. settled sign k true cut) (sym all) ∙ ap (λ b. settled sign (top_of n decimals / bottom_of n) b cut) (sym tests) in
+    record {
+      found = λ _. (n, good, text_is, number);
+      missing = λ bad. absurd (settled_number sign scaled true cut (sym result_is ∙ bad));
+    }
+
 -- the digits of a fraction, or none
 pub unwrap_digits : (fraction : Option (Bor (List ℕ))) (none : Bor (List ℕ)) → none.now ≡ [] → (unwrap_or fraction none).now ≡ unwrap_or (option_copied fraction) []
 unwrap_digits None none empty = empty
 unwrap_digits (Some digits) none empty = refl
 
-digits_unwrapped : (fraction : Option (List ℕ)) → IfSome fraction (AllDigits 10) → AllDigits 10 (unwrap_or fraction [])
+pub digits_unwrapped : (fraction : Option (List ℕ)) → IfSome fraction (AllDigits 10) → AllDigits 10 (unwrap_or fraction [])
 digits_unwrapped None digits = tt
 digits_unwrapped (Some ds) digits = digits
 

@@ -7,7 +7,7 @@ use Rattle.std.proofs.lemmas.Str.Parse.{IsNumeralModel, numerals_by_value, tells
 use Rattle.ply_text.specs.Wholes.{is_whole, whole_of}
 
 -- `all_ascii_digits` is `AllDigits`, as a test
-digits_test : IsNumeralModel (λ ds. all_ascii_digits ds ≡ true) (digits_value 10)
+pub digits_test : IsNumeralModel (λ ds. all_ascii_digits ds ≡ true) (digits_value 10)
 digits_test = numerals_by_value (λ ds. all_ascii_digits ds ≡ true) tells_all_ascii_digits
 
 -- 1 to 20 digits, as facts

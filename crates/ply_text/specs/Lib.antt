@@ -1,5 +1,6 @@
 pub mod BodyTokens
 pub mod Calls
+pub mod Fixed
 pub mod HeaderLines
 pub mod Holding
 pub mod NextPieces

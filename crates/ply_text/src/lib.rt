@@ -11,7 +11,7 @@ mod tokens;
 mod wholes;
 
 pub use fault::TextFault;
-pub use numbers::{NumberFault, one_numeral, read_fixed};
+pub use numbers::{NumberFault, one_numeral, one_reading, read_fixed};
 pub use tokens::{Line, Token, Tokens};
 pub use wholes::read_whole;
 

@@ -3,7 +3,7 @@
 ghost use Rattle.std.specs.Prelude.{◌≤◌, length};
 
 use crate::NumberFault::{BadNumber, NotWhole, OutOfRange};
-use crate::{NumberFault, one_numeral, read_fixed, read_whole};
+use crate::{NumberFault, one_numeral, one_reading, read_fixed, read_whole};
 use std::test::Fail;
 
 /// A number by what it is without cutting, and with it.
@@ -96,8 +96,9 @@ fn reads_decimal_numbers(rt: HostRuntime) {
             "{token}"
         );
     }
-    // The law has nothing to run.
+    // The laws have nothing to run.
     one_numeral();
+    one_reading();
 }
 
 #[test]

@@ -1,11 +1,13 @@
 //! Decimal numbers of a text, as whole numbers at a scale.
 
-ghost use Rattle.std.specs.Prelude.{◌≡◌, ◌≤◌, length};
+ghost use Rattle.std.specs.Prelude.{◌≡◌, ◌≤◌, ◌^◌, ℕ, ℤ, Bool, List, Result, IfOk, length, unsigned_abs};
 ghost use Rattle.ply_text.specs.Numerals.{Numeral, IsNumeral, spelled};
 ghost use Rattle.ply_text.specs.Scaled.{ReadsNumber, settled};
+ghost use Rattle.ply_text.specs.Fixed.{fixed_of};
 
-use crate::numerals::{Sign, take_apart};
-use crate::sizes::{Quotient, scale};
+use crate::numerals::{Sign, read_sign, take_apart};
+use crate::sizes::{Quotient, scale, whole_times};
+use crate::wholes::read_whole;
 
 /// The largest size of a number.
 const MAX_SIZE: u64 = 1 << 30;
@@ -38,7 +40,29 @@ pub enum NumberFault {
 pub fn read_fixed(token: &[u8], decimals: u32, cut: bool) -> Result<i32, NumberFault>
     requires short { length token.now ≤ 255 }
     requires scale { decimals ≤ 9 }
-    ensures { ReadsNumber token.now decimals cut result }
+    ensures reads { ReadsNumber token.now decimals cut result }
+    ensures fixed { result ≡ fixed_of decimals cut token.now }
+    ensures within { IfOk result (λ n. unsigned_abs n ≤ 2 ^ 30) }
+{
+    let (sign, text) = read_sign(token);
+    match read_whole(text, MAX_SIZE) {
+        Some(size) => settle(sign, whole_times(size, decimals), cut),
+        None => read_decimal(token, decimals, cut),
+    }
+}
+
+/// A token's number at a scale, or the reason why it has none, is one alone, and `fixed_of` computes it.
+pub fn one_reading()
+    ensures { (token : List ℕ) (decimals : ℕ) (cut : Bool) (result : Result ℤ NumberFault)
+        → ReadsNumber token decimals cut result → result ≡ fixed_of decimals cut token }
+{}
+
+/// The same, of a token that need not be digits behind a sign.
+fn read_decimal(token: &[u8], decimals: u32, cut: bool) -> Result<i32, NumberFault>
+    requires short { length token.now ≤ 255 }
+    requires scale { decimals ≤ 9 }
+    ensures reads { ReadsNumber token.now decimals cut result }
+    ensures within { IfOk result (λ n. unsigned_abs n ≤ 2 ^ 30) }
 {
     let Some(parts) = take_apart(token) else {
         return Err(NumberFault::BadNumber);
@@ -54,7 +78,8 @@ pub fn one_numeral()
 
 /// A number of this sign and size, cut toward zero.
 fn settle(sign: Sign, quotient: Quotient, cut: bool) -> Result<i32, NumberFault>
-    ensures { result ≡ settled sign quotient.size quotient.is_whole cut }
+    ensures number { result ≡ settled sign quotient.size quotient.is_whole cut }
+    ensures within { IfOk result (λ n. unsigned_abs n ≤ 2 ^ 30) }
 {
     if !(quotient.is_whole || cut) {
         return Err(NumberFault::NotWhole);

@@ -61,7 +61,7 @@ pub(crate) fn take_apart(token: &[u8]) -> Option<Parts<'_>>
 }
 
 /// The sign at the front of the text, and what follows it.
-fn read_sign(text: &[u8]) -> (Sign, &[u8])
+pub(crate) fn read_sign(text: &[u8]) -> (Sign, &[u8])
     ensures spelled { text.now ≡ sign_text result.0 ++ result.1.now }
     ensures none { result.0 ≡ Sign.Unsigned → HasNoSign result.1.now }
 {

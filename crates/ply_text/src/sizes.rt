@@ -1,6 +1,6 @@
 //! The size of a decimal number at a scale, cut to a whole number.
 
-ghost use Rattle.std.specs.Prelude.{◌≡◌, ◌+◌, ◌-◌, ◌*◌, ◌/◌, ◌%◌, ◌^◌, ◌≤◌, ◌++◌, ◌==◌, length, take, drop};
+ghost use Rattle.std.specs.Prelude.{true, ◌≡◌, ◌+◌, ◌-◌, ◌*◌, ◌/◌, ◌%◌, ◌^◌, ◌≤◌, ◌++◌, ◌==◌, length, take, drop};
 ghost use Rattle.std.specs.List.{list_all};
 ghost use Rattle.std.specs.Str.Parse.{AllDigits, digits_value, digits_value_after};
 ghost use Rattle.ply_text.specs.NumeralParts.{IsWithinBounds, parts_top, parts_bottom, capped};
@@ -36,6 +36,18 @@ pub(crate) fn scale(parts: &Parts<'_>, decimals: u32) -> Quotient
         }
     } else {
         divided(parts.whole, parts.fraction, (down - up) as usize)
+    }
+}
+
+/// A whole number times ten to the power of `tens`.
+pub(crate) fn whole_times(size: u64, tens: u32) -> Quotient
+    requires { size ≤ 2 ^ 30 + 1 }
+    ensures size { result.size ≡ capped (size * 10 ^ tens) }
+    ensures is_whole { result.is_whole ≡ true }
+{
+    Quotient {
+        size: multiplied(size, tens),
+        is_whole: true,
     }
 }
 
