@@ -1,9 +1,9 @@
 -- The filled cells grow cell by cell, and are one list.
 use Rattle.std.proofs.Common.{◌≡◌, ℕ, zero, suc, ◌+◌, ◌^◌, ◌<◌, ◌≤◌, Bool, true, false, min, List, [], ◌∷◌, ◌++◌, arith, refl, sym, subst, inl, inr, add-one}
-use Rattle.std.specs.Prelude.{All}
+use Rattle.std.specs.Prelude.{All, cond}
 use Rattle.std.specs.List.{Any, Contains}
 use Rattle.std.proofs.lemmas.Bool.{cases_Bool, cases_lt}
-use Rattle.std.proofs.lemmas.List.{map-append}
+use Rattle.std.proofs.lemmas.List.{append-nil, map-append}
 use Rattle.std.proofs.lemmas.List.Elements.{All-nil, All-cons, All-head, All-tail, All-push, All-weaker, All-map}
 use Rattle.svo_base.specs.GridShape.{GridShape}
 use Rattle.octree_specs.proofs.CodeSets.{AreAllBelow, none_below, one_in, one_out, one_set}
@@ -108,12 +108,11 @@ one_fill grid faced first second one other =
 -- ---- there is one
 
 -- a slot with one triangle more
-pub joined : ℕ → ℕ → ℕ
+abbrev pub joined : ℕ → ℕ → ℕ
 joined zero face = face + 1
 joined (suc held) face = suc (min held face)
 
 pub slot_joined : (grid : GridShape) (code slot : ℕ) (x : Faced) (xs : List Faced) → MeetsCell grid code x → IsSlotOf grid xs code slot → IsSlotOf grid (x ∷ xs) code (joined slot x.face)
-unfolding joined
 slot_joined grid code zero x xs met is = record {
   none = λ zero. absurd (omega (arith, zero));
   some = λ face held.
@@ -161,39 +160,48 @@ slot_passed grid code slot x xs not_met is = record {
       };
 }
 
--- each cell has a slot
-slot_exists : (grid : GridShape) (code : ℕ) (faced : List Faced) → (slot : ℕ) × IsSlotOf grid faced code slot
-slot_exists grid code [] = (
-  0,
-  record {
-    none = λ _. All-nil (λ y. MeetsCell grid code y → ⊥);
-    some = λ face held. absurd (omega (arith, held));
-  },
-)
-slot_exists grid code (x ∷ xs) =
-    let rest = slot_exists grid code xs in
+-- the slot of a cell, and the filled cells below a bound, computed by trying candidates
+unfoldable pub slot_value : GridShape → ℕ → List Faced → ℕ
+slot_value grid code [] = 0
+slot_value grid code (x ∷ xs) =
+    cond (has_good_candidate x.triangle (node_cube grid grid.depth code)) (joined (slot_value grid code xs) x.face) (slot_value grid code xs)
+
+abbrev cells_with : ℕ → ℕ → List Cell
+cells_with code zero = []
+cells_with code (suc face) = record { code = code; face = face } ∷ []
+
+unfoldable pub cells_value : GridShape → List Faced → ℕ → List Cell
+cells_value grid faced zero = []
+cells_value grid faced (suc bound) = cells_value grid faced bound ++ cells_with bound (slot_value grid bound faced)
+
+slot_is : (grid : GridShape) (code : ℕ) (faced : List Faced) → IsSlotOf grid faced code (slot_value grid code faced)
+unfolding slot_value
+slot_is grid code [] = record {
+  none = λ _. All-nil (λ y. MeetsCell grid code y → ⊥);
+  some = λ face held. absurd (omega (arith, held));
+}
+slot_is grid code (x ∷ xs) =
     let good = good_exactly_where_met x.triangle (node_cube grid grid.depth code) in
     elim (cases_Bool (has_good_candidate x.triangle (node_cube grid grid.depth code))) [
-      | inl met ↦ (joined rest.0 x.face, slot_joined grid code rest.0 x xs (good.0 met) rest.1)
-      | inr fails ↦ (rest.0, slot_passed grid code rest.0 x xs (λ met. absurd (differ (good.1 met) fails)) rest.1)
+      | inl met ↦ rw met (slot_joined grid code (slot_value grid code xs) x xs (good.0 met) (slot_is grid code xs))
+      | inr fails ↦ rw fails (slot_passed grid code (slot_value grid code xs) x xs (λ met. differ (good.1 met) fails) (slot_is grid code xs))
     ]
   where
     differ : {b : Bool} → b ≡ true → b ≡ false → ⊥
     differ yes_so no_so = cc
 
 cells_step : (grid : GridShape) (faced : List Faced) (bound slot : ℕ) (cells : List Cell) → AreFilledBelow grid faced bound cells → IsSlotOf grid faced bound slot
-    → (more : List Cell) × AreFilledBelow grid faced (bound + 1) more
-cells_step grid faced bound zero cells are is = (cells, empty_next grid faced bound cells are is)
+    → AreFilledBelow grid faced (bound + 1) (cells ++ cells_with bound slot)
+cells_step grid faced bound zero cells are is = subst (AreFilledBelow grid faced (bound + 1)) (sym (append-nil cells)) (empty_next grid faced bound cells are is)
 cells_step grid faced bound (suc face) cells are is =
-    (cells ++ record { code = bound; face = face } ∷ [], filled_next grid faced bound face cells are (subst (λ n. IsSlotOf grid faced bound n) (sym (add-one face)) is))
+    filled_next grid faced bound face cells are (subst (λ n. IsSlotOf grid faced bound n) (sym (add-one face)) is)
 
-cells_exist : (grid : GridShape) (faced : List Faced) (bound : ℕ) → (cells : List Cell) × AreFilledBelow grid faced bound cells
-cells_exist grid faced zero = ([], none_filled grid faced)
-cells_exist grid faced (suc bound) =
-    let before = cells_exist grid faced bound in
-    let slot = slot_exists grid bound faced in
-    let next = cells_step grid faced bound slot.0 before.0 before.1 slot.1 in
-    (next.0, subst (λ n. AreFilledBelow grid faced n next.0) (add-one bound) next.1)
+pub cells_are : (grid : GridShape) (faced : List Faced) (bound : ℕ) → AreFilledBelow grid faced bound (cells_value grid faced bound)
+unfolding cells_value
+cells_are grid faced zero = none_filled grid faced
+cells_are grid faced (suc bound) =
+    subst (λ n. AreFilledBelow grid faced n (cells_value grid faced bound ++ cells_with bound (slot_value grid bound faced))) (add-one bound)
+    (cells_step grid faced bound (slot_value grid bound faced) (cells_value grid faced bound) (cells_are grid faced bound) (slot_is grid bound faced))
 
 pub have_one_fill : HaveOneFill
-have_one_fill = record { some = λ grid faced. cells_exist grid faced (8 ^ grid.depth); one = one_fill }
+have_one_fill = record { some = λ grid faced. (cells_value grid faced (8 ^ grid.depth), cells_are grid faced (8 ^ grid.depth)); one = one_fill }

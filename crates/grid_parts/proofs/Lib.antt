@@ -1,3 +1,4 @@
 pub mod Boxes
 pub mod Growing
 pub mod PartCells
+pub mod WorkedParts
