@@ -2,6 +2,7 @@ pub mod Fitted
 pub mod Fitting
 pub mod FormatOne
 pub mod Frames
+pub mod Growth
 pub mod Images
 pub mod InTurn
 pub mod Alike
@@ -21,3 +22,4 @@ mod Statements
 pub mod Trees
 pub mod Under
 pub mod Verdicts
+pub mod WordBytes
