@@ -1,12 +1,12 @@
 -- The words of a framed file, read from its bytes by number.
-use Rattle.std.proofs.Common.{◌≡◌, ℕ, zero, suc, ◌+◌, ◌-◌, ◌*◌, ◌^◌, ◌<◌, ◌≤◌, List, [], ◌∷◌, ◌++◌, length, get_or, take, drop, refl, sym, ap, subst, ◌∙◌, inl, inr, arith, lit<}
+use Rattle.std.proofs.Common.{◌≡◌, ℕ, zero, suc, ◌+◌, ◌*◌, ◌^◌, ◌<◌, List, [], ◌∷◌, ◌++◌, length, get_or, take, drop, refl, sym, ap, ◌∙◌, inl, inr, arith, lit<}
 use Rattle.std.specs.Prelude.{All, slice_index}
 use Rattle.std.specs.Int.{w64, to_le_bytes, from_le_bytes}
 use Rattle.std.proofs.lemmas.Bool.{cases_lt}
-use Rattle.std.proofs.lemmas.List.{append_assoc, length-append, length-take, length-drop, take_at, drop_at, drop-drop, take-append-drop, nil_from_length, get_or_past}
+use Rattle.std.proofs.lemmas.List.{append_assoc, length-take, length-drop, take_at, drop_at, drop-drop, take-append-drop, nil_from_length, get_or_past}
 use Rattle.std.proofs.lemmas.List.Elements.{All-get_or, All-nil, All-cons, All-drop, All-take}
 use Rattle.std.proofs.lemmas.Nat.{le_bytes_8, from_le_bytes-to_le_bytes_8}
-use Rattle.svo_base.specs.GridShape.{GridShape, IsGrid}
+use Rattle.svo_base.specs.GridShape.{GridShape}
 use Rattle.octree_specs.specs.OctreeFile.{header_of, trailer_of, frame_of, IsFramed}
 use Rattle.octree_laws.proofs.Bytes.{bytes_of, bytes_of-cons, length-eight}
 use Rattle.octree_laws.proofs.Frames.{length-header}
