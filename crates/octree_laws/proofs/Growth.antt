@@ -1,7 +1,8 @@
 -- What lies below a node depends on the leaves under it alone; so a leaf that is added changes nothing elsewhere.
-use Rattle.std.proofs.Common.{◌≡◌, ℕ, zero, suc, ◌+◌, ◌*◌, ◌/◌, ◌^◌, ◌<◌, ◌≤◌, ◌≢◌, Bool, true, false, cond, List, [], ◌∷◌, ◌++◌, refl, sym, ap, subst, ◌∙◌, inl, inr, arith, add-one, lit≤}
+use Rattle.std.proofs.Common.{◌≡◌, ℕ, zero, suc, ◌+◌, ◌*◌, ◌/◌, ◌^◌, ◌<◌, ◌≤◌, ◌≢◌, true, false, cond, List, [], ◌∷◌, ◌++◌, refl, sym, ap, subst, ◌∙◌, inl, inr, arith, add-one, lit≤}
 use Rattle.std.specs.Prelude.{◌==◌, ◌||◌}
 use Rattle.std.specs.List.{sum_by}
+use Rattle.std.proofs.Math.Bool.{or-false, or_assoc}
 use Rattle.std.proofs.lemmas.Bool.{cases_Bool, eqb-true, eq-eqb, ne_eqb, or_cases, or_left, or_right, or_parts, cond-true, cond-false}
 use Rattle.std.proofs.lemmas.List.Sums.{sum_by-cons}
 use Rattle.octree_specs.specs.Octree.{Leaf, is_nonempty, leaf_word, first_children, children_of, size_of, word_of, in_turn, below_of}
@@ -144,17 +145,9 @@ same_under xs ys (suc height) node alike =
 -- ---- one more leaf
 
 pub nonempty_push : (leaves : List Leaf) (leaf : Leaf) (height node : ℕ) → is_nonempty (leaves ++ leaf ∷ []) height node ≡ (is_nonempty leaves height node || (leaf.node / 8 ^ height == node))
-nonempty_push [] leaf height node = or_false (leaf.node / 8 ^ height == node)
-  where
-    or_false : (b : Bool) → (b || false) ≡ b
-    or_false true = refl
-    or_false false = refl
+nonempty_push [] leaf height node = or-false (leaf.node / 8 ^ height == node)
 nonempty_push (first ∷ rest) leaf height node =
-    ap (λ b. (first.node / 8 ^ height == node) || b) (nonempty_push rest leaf height node) ∙ or_three (first.node / 8 ^ height == node) (is_nonempty rest height node) (leaf.node / 8 ^ height == node)
-  where
-    or_three : (a b c : Bool) → (a || (b || c)) ≡ ((a || b) || c)
-    or_three true b c = refl
-    or_three false b c = refl
+    ap (λ b. (first.node / 8 ^ height == node) || b) (nonempty_push rest leaf height node) ∙ sym (or_assoc (first.node / 8 ^ height == node) (is_nonempty rest height node) (leaf.node / 8 ^ height == node))
 
 -- the leaf's own nodes are nonempty
 pub nonempty_here : (leaves : List Leaf) (leaf : Leaf) (height node : ℕ) → leaf.node / 8 ^ height ≡ node → is_nonempty (leaves ++ leaf ∷ []) height node ≡ true
@@ -164,11 +157,7 @@ nonempty_here leaves leaf height node under =
 -- others are as before
 pub nonempty_elsewhere : (leaves : List Leaf) (leaf : Leaf) (height node : ℕ) → leaf.node / 8 ^ height ≢ node → is_nonempty (leaves ++ leaf ∷ []) height node ≡ is_nonempty leaves height node
 nonempty_elsewhere leaves leaf height node apart =
-    nonempty_push leaves leaf height node ∙ (ap (λ b. is_nonempty leaves height node || b) (ne_eqb (leaf.node / 8 ^ height) node apart) ∙ or_false (is_nonempty leaves height node))
-  where
-    or_false : (b : Bool) → (b || false) ≡ b
-    or_false true = refl
-    or_false false = refl
+    nonempty_push leaves leaf height node ∙ (ap (λ b. is_nonempty leaves height node || b) (ne_eqb (leaf.node / 8 ^ height) node apart) ∙ or-false (is_nonempty leaves height node))
 
 pub leaf_word-elsewhere : (leaves : List Leaf) (leaf : Leaf) (code : ℕ) → leaf.node ≢ code → leaf_word (leaves ++ leaf ∷ []) code ≡ leaf_word leaves code
 leaf_word-elsewhere [] leaf code apart = cond-false (leaf.node == code) leaf.word 0 (ne_eqb leaf.node code apart)

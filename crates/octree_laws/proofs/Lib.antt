@@ -1,3 +1,7 @@
+pub mod Alike
+pub mod Bytes
+pub mod Counting
+pub mod FirstChildren
 pub mod Fitted
 pub mod Fitting
 pub mod FormatOne
@@ -5,21 +9,20 @@ pub mod Frames
 pub mod Growth
 pub mod Images
 pub mod InTurn
-pub mod Alike
-pub mod Bytes
-pub mod Counting
-pub mod FirstChildren
+pub mod Inversions
 pub mod Maps
-pub mod MaskLeaves
 pub mod Marks
+pub mod MaskLeaves
 pub mod Masks
 pub mod ReadTrees
 pub mod Reading
 pub mod Rising
 pub mod Sizes
+pub mod Soundness
 pub mod Standing
 mod Statements
 pub mod Trees
 pub mod Under
 pub mod Verdicts
+pub mod Weights
 pub mod WordBytes

@@ -1,5 +1,5 @@
 -- Words stand for one list of cells at most.
-use Rattle.std.proofs.Common.{◌≡◌, ℕ, suc, ◌+◌, ◌-◌, ◌*◌, ◌/◌, ◌^◌, ◌<◌, true, List, [], ◌∷◌, length, refl, sym, ap, subst, ◌∙◌, inl, inr, arith}
+use Rattle.std.proofs.Common.{◌≡◌, ℕ, zero, suc, ◌+◌, ◌-◌, ◌*◌, ◌/◌, ◌^◌, ◌<◌, true, List, [], ◌∷◌, length, refl, sym, ap, subst, ◌∙◌, inl, inr, arith}
 use Rattle.std.specs.Prelude.{◌==◌, All}
 use Rattle.std.specs.List.{Contains}
 use Rattle.std.proofs.Math.Nat.{div-eq_of_lt}
@@ -193,3 +193,21 @@ one_map format levels words xs ys x y =
           code (all_under_root (suc levels) code (All-contains (λ n. n < 8 ^ suc levels) (codes_of xs) code (codes_are (suc levels) xs x.cells_are.map).inside has))).word
           (in_filled xs code has))
     ]
+
+code_in : (cells : List Cell) (cell : Cell) → Contains cells cell → Contains (codes_of cells) cell.code
+code_in [] cell has = absurd (omega (arith, has.1))
+code_in (first ∷ rest) cell (zero, within, is) = subst (λ (c : Cell). Contains (codes_of (first ∷ rest)) c.code) is (in_first first.code (codes_of rest))
+code_in (first ∷ rest) cell (suc k, within, is) = in_rest first.code (codes_of rest) cell.code (code_in rest cell (k, omega (arith, within), is))
+
+-- the word of a cell is that of its face
+face_of_cell : (low : ℕ) (cells : List Cell) → Ascends low (codes_of cells) → (cell : Cell) → Contains cells cell → leaf_word (face_leaves cells) cell.code ≡ 1 + 256 * cell.face
+unfolding Ascends
+face_of_cell low [] ascending cell has = absurd (omega (arith, has.1))
+face_of_cell low (first ∷ rest) ascending cell (zero, within, is) = subst (λ (c : Cell). leaf_word (face_leaves (first ∷ rest)) c.code ≡ 1 + 256 * c.face) is (face_at first rest)
+face_of_cell low (first ∷ rest) ascending cell (suc k, within, is) =
+    let later : Contains rest cell = (k, omega (arith, within), is) in
+    let above : first.code < cell.code = omega (arith, above_low (first.code + 1) (codes_of rest) ascending.1 cell.code (code_in rest cell later)) in
+    face_past first rest cell.code above ∙ face_of_cell (first.code + 1) rest ascending.1 cell later
+
+pub map_face : (depth : ℕ) (cells : List Cell) → AreFacedCells depth cells → (cell : Cell) → Contains cells cell → leaf_word (face_leaves cells) cell.code ≡ 1 + 256 * cell.face
+map_face depth cells are cell has = face_of_cell 0 cells (ascends 0 (codes_of cells) are.ascending (λ some. omega arith)) cell has

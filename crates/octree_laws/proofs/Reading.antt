@@ -2,6 +2,7 @@
 use Rattle.std.proofs.Common.{◌≡◌, ℕ, zero, suc, ◌+◌, ◌*◌, ◌/◌, ◌%◌, ◌^◌, ◌<◌, ◌≤◌, Bool, true, false, cond, List, [], ◌∷◌, ◌++◌, refl, sym, ap, subst, ◌∙◌, inl, inr, arith, lit<}
 use Rattle.std.specs.Prelude.{◌==◌, ◌||◌, slice_index, All}
 use Rattle.std.proofs.Math.Nat.{pow-suc, one-le-pow, mul-le-mul_right, div-eq_of_lt-le}
+use Rattle.std.proofs.Math.Bool.{or-false, or_assoc}
 use Rattle.std.proofs.lemmas.Bool.{cases_eq, or_parts, false_from_ne_true, cond-false}
 use Rattle.std.proofs.lemmas.List.{map-append}
 use Rattle.std.proofs.lemmas.List.Elements.{All-nil, All-cons, All-head, All-tail, All-append, All-weaker, All-contains}
@@ -126,11 +127,7 @@ not_above low high cells run code over = false_from_ne_true (has_cell cells code
 has_cell-append : (xs ys : List Cell) (code : ℕ) → has_cell (xs ++ ys) code ≡ (has_cell xs code || has_cell ys code)
 has_cell-append [] ys code = refl
 has_cell-append (cell ∷ rest) ys code =
-    ap (λ b. (cell.code / 8 ^ 0 == code) || b) (has_cell-append rest ys code) ∙ or_three (cell.code / 8 ^ 0 == code) (has_cell rest code) (has_cell ys code)
-  where
-    or_three : (a b c : Bool) → (a || (b || c)) ≡ ((a || b) || c)
-    or_three true b c = refl
-    or_three false b c = refl
+    ap (λ b. (cell.code / 8 ^ 0 == code) || b) (has_cell-append rest ys code) ∙ sym (or_assoc (cell.code / 8 ^ 0 == code) (has_cell rest code) (has_cell ys code))
 
 same_code : (cell : Cell) (code : ℕ) → (cell.code / 8 ^ 0 == code) ≡ (cell.code == code)
 same_code cell code = ap (λ n. n == code) (div-leaf cell.code)
@@ -161,13 +158,9 @@ same_twice xs ys zs code first second = record { has = first.has ∙ second.has;
 
 same_left : (xs ys : List Cell) (code : ℕ) → has_cell ys code ≡ false → AreSame (xs ++ ys) xs code
 same_left xs ys code none = record {
-  has = has_cell-append xs ys code ∙ (ap (λ b. has_cell xs code || b) none ∙ or_false (has_cell xs code));
+  has = has_cell-append xs ys code ∙ (ap (λ b. has_cell xs code || b) none ∙ or-false (has_cell xs code));
   word = word_left xs ys code none;
 }
-  where
-    or_false : (b : Bool) → (b || false) ≡ b
-    or_false true = refl
-    or_false false = refl
 
 same_right : (xs ys : List Cell) (code : ℕ) → has_cell xs code ≡ false → AreSame (xs ++ ys) ys code
 same_right xs ys code none = record {

@@ -1,33 +1,31 @@
 -- The checker refuses nothing exactly where the words stand for some cells, as many as it is told.
 use Rattle.std.proofs.Common.{◌≡◌, ℕ, zero, suc, ◌+◌, ◌-◌, ◌*◌, ◌/◌, ◌%◌, ◌^◌, ◌<◌, ◌≤◌, Bool, true, false, cond, List, [], ◌∷◌, ◌++◌, length, get_or, map, Option, None, Some, Result, Ok, Err, refl, sym, ap, subst, ◌∙◌, inl, inr, arith, lit≤, add-zero, zero-add}
-use Rattle.std.specs.Prelude.{◌==◌, not, nat_le, count_ones, slice_index, All}
+use Rattle.std.specs.Prelude.{◌==◌, slice_index, All}
 use Rattle.std.specs.List.{sum_by, filter, range_with_len}
 use Rattle.std.proofs.Math.Nat.{div-eq_of_lt}
-use Rattle.std.proofs.lemmas.Bool.{cases_Bool, both_ways, eqb-true, eq-eqb, ne_eqb, and_parts, and_from, false_from_ne_true, le-leb, or_cases, or_left, not_from_false}
+use Rattle.std.proofs.lemmas.Bool.{cases_Bool, eqb-true, eq-eqb, and_parts, false_from_ne_true, or_left}
 use Rattle.std.proofs.lemmas.List.{length_push, same_lists, get_or_default}
 use Rattle.std.proofs.lemmas.List.Elements.{All-head, All-tail, All-nil, All-cons, All-weaker}
-use Rattle.std.proofs.lemmas.List.Sums.{sum_by-cons}
 use Rattle.octree_specs.specs.Cells.{Cell, codes_of, AreFacedCells}
-use Rattle.octree_specs.specs.Checking.{LeafRule, Fitted, ones_in, mask_rule, face_rule, rule_of, fit, is_empty_tree, refused_by, refused_in}
+use Rattle.octree_specs.specs.Checking.{LeafRule, Fitted, mask_rule, face_rule, rule_of, fit, is_empty_tree, refused_by, refused_in}
 use Rattle.octree_specs.specs.Formats.{IsFormat, AreCellsIn, StandFor, face_leaves, mask_leaves, levels_of, file_words}
-use Rattle.octree_specs.specs.Octree.{Leaf, is_nonempty, leaf_word, first_children, mask_of, size_of, word_of, in_turn, below_of, words_of}
+use Rattle.octree_specs.specs.Octree.{Leaf, is_nonempty, first_children, mask_of, size_of, word_of, in_turn, below_of, words_of}
 use Rattle.octree_specs.specs.Walking.{HasTree}
 use Rattle.octree_laws.specs.Laws.{StandForMany}
-use Rattle.octree_laws.proofs.Counting.{count_under, count_children, count_one, count_all}
+use Rattle.octree_laws.proofs.Counting.{count_all}
 use Rattle.octree_laws.proofs.Fitted.{IsFitted, is_fitted, holds-append}
 use Rattle.octree_laws.proofs.Fitting.{weigh, good, fitted, AreLawful, Passes, passes}
 use Rattle.octree_laws.proofs.Maps.{words_one, words_two}
-use Rattle.octree_laws.proofs.MaskLeaves.{no_children, nonempty_same, nonempty_up, leaf_mask}
+use Rattle.octree_laws.proofs.MaskLeaves.{no_children, nonempty_same, nonempty_up}
 use Rattle.octree_laws.proofs.Images.{face_marked, mask_marked}
-use Rattle.octree_laws.proofs.InTurn.{sum_by-ones}
-use Rattle.octree_laws.proofs.Marks.{HasMarks, all_nonempty, some_mask, word_marked}
-use Rattle.octree_laws.proofs.Masks.{mask_front, mask_front-small, ones_front}
+use Rattle.octree_laws.proofs.Marks.{HasMarks, word_marked}
 use Rattle.octree_laws.proofs.Reading.{read_cells, read_run, IsRun}
-use Rattle.octree_laws.proofs.ReadTrees.{HasBits, HasCode, IsSound, sound, bits_one, bits_two, some_code, Agrees, face_in, no_face, tree_one, tree_two, faces_two, faces_none}
+use Rattle.octree_laws.proofs.ReadTrees.{HasBits, HasCode, bits_one, bits_two, some_code, Agrees, face_in, no_face, tree_one, tree_two, faces_two, faces_none}
 use Rattle.octree_laws.proofs.Rising.{Ascends, ascends, increasing}
 use Rattle.octree_laws.proofs.Sizes.{length-below_of, length-words_of}
 use Rattle.octree_laws.proofs.Standing.{Holds, Stands, root_stands}
-use Rattle.octree_laws.proofs.Under.{div-leaf}
+use Rattle.octree_laws.proofs.Soundness.{IsSound, sound}
+use Rattle.octree_laws.proofs.Weights.{weigh_one, weigh_two, lawful_one, lawful_two}
 
 -- ---- from the words of a node to all words
 
@@ -56,74 +54,6 @@ words_are words leaves levels number long size below own =
     holds_whole words (below_of leaves levels 0 0 ++ word_of leaves levels 0 0 ∷ [])
     (holds-append words 0 (below_of leaves levels 0 0) (word_of leaves levels 0 0 ∷ []) below (subst (λ n. Holds words n (word_of leaves levels 0 0 ∷ [])) (sym behind) root))
     (omega (arith, long, size, length_push (below_of leaves levels 0 0) (word_of leaves levels 0 0), length-below_of leaves levels 0 0))
-
--- ---- numbers of cells
-
-sum_by-each : (Q : ℕ → Type 0) (f g : ℕ → ℕ) (xs : List ℕ) → ((x : ℕ) → Q x → f x ≡ g x) → All Q xs → sum_by f xs ≡ sum_by g xs
-sum_by-each Q f g [] same all = refl
-sum_by-each Q f g (x ∷ rest) same all =
-    sum_by-cons f x rest ∙ (rw (same x (All-head Q x rest all), sum_by-each Q f g rest same (All-tail Q x rest all)) (sym (sum_by-cons g x rest)))
-
-weigh_two : (cells : List Cell) → Ascends 0 (codes_of cells) → (height node : ℕ) → is_nonempty (face_leaves cells) height node ≡ true → weigh face_rule (face_leaves cells) height node ≡ count_under cells height node
-unfolding weigh
-weigh_two cells rises zero node nonempty = sym (count_one 0 cells rises node nonempty)
-weigh_two cells rises (suc height) node nonempty =
-    sum_by-each (λ child. is_nonempty (face_leaves cells) height child ≡ true) (weigh face_rule (face_leaves cells) height) (count_under cells height) (first_children (face_leaves cells) height node 8)
-    (weigh_two cells rises height) (all_nonempty (face_leaves cells) height node 8)
-    ∙ count_children cells height node
-
-module _ (levels : ℕ) (cells : List Cell) (inside : All (λ cell. cell.code < 8 ^ suc levels) cells) where
-  children_same : (height node : ℕ) → first_children (mask_leaves levels cells) height node 8 ≡ first_children (face_leaves cells) (suc height) node 8
-  unfolding first_children
-  children_same height node = ap (λ p. filter p (range_with_len (8 * node) 8)) (λ i n. nonempty_same levels cells inside height n i)
-
-  mask_ones : (node : ℕ) → ones_in (leaf_word (mask_leaves levels cells) node) ≡ length (first_children (face_leaves cells) 0 node 8)
-  mask_ones node =
-      let small : mask_front (face_leaves cells) 0 node 8 < 2 ^ 8 = mask_front-small (face_leaves cells) 0 node 8 (lit≤ tt) in
-      let low : mask_front (face_leaves cells) 0 node 8 % 256 ≡ mask_front (face_leaves cells) 0 node 8 = omega arith in
-      ap ones_in (leaf_mask levels cells inside node) ∙ (ap count_ones low ∙ ones_front (face_leaves cells) 0 node 8 (lit≤ tt))
-
-  weigh_one : Ascends 0 (codes_of cells) → (height node : ℕ) → is_nonempty (mask_leaves levels cells) height node ≡ true → weigh mask_rule (mask_leaves levels cells) height node ≡ count_under cells (suc height) node
-  unfolding weigh
-  weigh_one rises zero node nonempty =
-      let children : List ℕ = first_children (face_leaves cells) 0 node 8 in
-      mask_ones node ∙ (sym (sum_by-ones children)
-      ∙ (sum_by-each (λ child. is_nonempty (face_leaves cells) 0 child ≡ true) (λ child. 1) (count_under cells 0) children (λ child filled. sym (count_one 0 cells rises child filled)) (all_nonempty (face_leaves cells) 0 node 8)
-      ∙ count_children cells 0 node))
-  weigh_one rises (suc height) node nonempty =
-      sum_by-each (λ child. is_nonempty (mask_leaves levels cells) height child ≡ true) (weigh mask_rule (mask_leaves levels cells) height) (count_under cells (suc height)) (first_children (mask_leaves levels cells) height node 8)
-      (weigh_one rises height) (all_nonempty (mask_leaves levels cells) height node 8)
-      ∙ (ap (sum_by (count_under cells (suc height))) (children_same height node) ∙ count_children cells (suc height) node)
-
--- ---- lawful leaves
-
-face_allowed : (face : ℕ) → face ≤ 2 ^ 32 - 2 → face_rule.allows (1 + 256 * face) ≡ true
-face_allowed face small =
-    let mask : (1 + 256 * face) % 256 ≡ 1 = omega arith in
-    let base : (1 + 256 * face) / 256 ≡ face = omega arith in
-    and_from ((1 + 256 * face) % 256 == 1) (nat_le ((1 + 256 * face) / 256) 4294967294) (eq-eqb ((1 + 256 * face) % 256) 1 mask) (le-leb ((1 + 256 * face) / 256) 4294967294 (omega (arith, base)))
-
-lawful_two : (cells : List Cell) → All (λ cell. cell.face ≤ 2 ^ 32 - 2) cells → AreLawful face_rule (face_leaves cells)
-unfolding AreLawful
-lawful_two [] faces node nonempty = cc
-lawful_two (cell ∷ rest) faces node nonempty = elim (cases_Bool (cell.code == node)) [
-  | inl here ↦ rw here (face_allowed cell.face (All-head (λ (c : Cell). c.face ≤ 2 ^ 32 - 2) cell rest faces))
-  | inr other ↦
-      let same : (cell.code / 8 ^ 0 == node) ≡ (cell.code == node) = ap (λ n. n == node) (div-leaf cell.code) in
-      elim (or_cases (cell.code / 8 ^ 0 == node) (is_nonempty (face_leaves rest) 0 node) nonempty) [
-        | inl first ↦ absurd (both_ways (cell.code == node) other (sym same ∙ first))
-        | inr later ↦ rw other (lawful_two rest (All-tail (λ (c : Cell). c.face ≤ 2 ^ 32 - 2) cell rest faces) node later)
-      ]
-]
-
-lawful_one : (levels : ℕ) (cells : List Cell) → All (λ cell. cell.code < 8 ^ suc levels) cells → AreLawful mask_rule (mask_leaves levels cells)
-unfolding AreLawful
-lawful_one levels cells inside node nonempty =
-    let word : ℕ = leaf_word (mask_leaves levels cells) node in
-    let small : mask_front (face_leaves cells) 0 node 8 < 2 ^ 8 = mask_front-small (face_leaves cells) 0 node 8 (lit≤ tt) in
-    let is : word ≡ mask_front (face_leaves cells) 0 node 8 = leaf_mask levels cells inside node in
-    let some : word % 256 ≡ 0 → ⊥ = λ none. some_mask (face_leaves cells) 0 node (sym (nonempty_same levels cells inside 0 node) ∙ nonempty) (omega (arith, is, none, small)) in
-    and_from (not (word % 256 == 0)) (word / 256 == 0) (not_from_false (word % 256 == 0) (ne_eqb (word % 256) 0 some)) (eq-eqb (word / 256) 0 (omega (arith, is, small)))
 
 -- ---- the root
 
