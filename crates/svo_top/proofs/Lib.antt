@@ -1,5 +1,4 @@
 pub mod CellCounts
-pub mod Digits
-pub mod NumberLists
 pub mod Plans
 pub mod Puts
+pub mod WordCauses

@@ -1,8 +1,9 @@
 -- What a run of `build` does.
-use Rattle.std.specs.Prelude.{◌≡◌, ◌≢◌, ◌⊎◌, ℕ, List, length, take, Some, Ok, IfSome}
+use Rattle.std.specs.Prelude.{◌≡◌, ◌≢◌, ◌⊎◌, ℕ, List, length, take, Some, Ok, Err, IfSome}
 use Rattle.std.specs.Io.KnownBytes.{IsAtEnd}
 use Rattle.dev_traits.specs.Change.{Change, IsFaultless, IsKept, Grew}
 use Rattle.svo_base.specs.GridShape.{GridShape}
+use Rattle.svo_base.specs.declared.grids.GridFault.{GridFault}
 use Rattle.octree_specs.specs.Mesh.{Mesh, triangles_of}
 use Rattle.octree_specs.specs.PlainText.{IsPlainText}
 use Rattle.octree_specs.specs.Filling.{AreFilledCodes}
@@ -10,12 +11,11 @@ use Rattle.octree_specs.specs.NodeWords.{AreCells, words_of}
 use Rattle.octree_specs.specs.NodeFile.{image_of}
 use Rattle.svo_top.specs.Ranges.{grid_of_words}
 use Rattle.svo_top.specs.Lines.{Says, built_line}
-use Rattle.svo_top.specs.declared.form.BuildWords.{BuildWords}
+use Rattle.svo_words.specs.declared.build.BuildWords.{BuildWords}
 use Rattle.svo_top.specs.declared.outcome.Status.{Status}
-use Rattle.svo_top.specs.declared.outcome.Status.TheVariants.{Done, Input, Range, Device, Memory}
+use Rattle.svo_top.specs.declared.outcome.Status.TheVariants.{Done, Input, Device, Memory}
 use Rattle.svo_top.specs.declared.outcome.InputKind.{InputKind}
 use Rattle.svo_top.specs.declared.outcome.InputKind.TheVariants.{NotPlain}
-use Rattle.svo_top.specs.declared.outcome.RangeFault.{RangeFault}
 use Rattle.svo_top.specs.declared.outcome.Device.TheVariants.{Write}
 
 -- the text stands for no mesh
@@ -67,7 +67,7 @@ pub record Refused (kind : InputKind) (place : ℕ) (input : Change) : Type 0 wh
 
 -- what each answer of a build means and leaves, and which one a faultless run gives
 pub record BuildMeans (job : BuildWords) (input out : Change) (status : Status) : Type 0 where
-  pub unread : (fault : RangeFault) → status ≡ Range fault → IsKept input
+  pub unread : (fault : GridFault) → grid_of_words job ≡ Err fault → IsKept input
   pub kept : status ≢ Done → status ≢ Device Write → IsKept out
   pub cut_off : status ≡ Device Write → CutOff job input out
   pub refused : (kind : InputKind) (place : ℕ) → status ≡ Input kind place → Refused kind place input

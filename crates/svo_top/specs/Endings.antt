@@ -3,7 +3,7 @@ use Rattle.std.specs.Prelude.{ℕ, List, ⊤}
 use Rattle.dev_traits.specs.Change.{Change}
 use Rattle.svo_top.specs.Build.{Built}
 use Rattle.svo_top.specs.Lines.{stop_line, built_line}
-use Rattle.svo_top.specs.declared.form.BuildWords.{BuildWords}
+use Rattle.svo_words.specs.declared.build.BuildWords.{BuildWords}
 use Rattle.svo_top.specs.declared.outcome.Status.{Status}
 use Rattle.svo_top.specs.declared.outcome.Status.TheVariants.{Done, Usage, Input, Range, Device, Memory}
 use Rattle.svo_top.specs.declared.reporting.Ending.{Ending}

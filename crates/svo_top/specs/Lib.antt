@@ -1,11 +1,9 @@
 pub mod Build
-pub mod BuildValues
 pub mod Causes
 pub mod Codes
 pub mod Endings
-pub mod Form
 pub mod Lines
-pub mod NumberFronts
 pub mod Planning
 pub mod Ranges
 pub mod Reading
+pub mod Usage

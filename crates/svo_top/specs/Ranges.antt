@@ -3,9 +3,9 @@ use Rattle.std.specs.Prelude.{◌≡◌, Option, None, Some, Result, Ok, Err}
 use Rattle.svo_base.specs.GridShape.{GridShape}
 use Rattle.svo_base.specs.GridLimits.{grid_from}
 use Rattle.svo_base.specs.declared.grids.GridFault.{GridFault}
-use Rattle.svo_top.specs.declared.form.Command.{Command}
-use Rattle.svo_top.specs.declared.form.Command.TheVariants.{Build}
-use Rattle.svo_top.specs.declared.form.BuildWords.{BuildWords}
+use Rattle.svo_words.specs.declared.commands.Command.{Command}
+use Rattle.svo_words.specs.declared.commands.Command.TheVariants.{Build}
+use Rattle.svo_words.specs.declared.build.BuildWords.{BuildWords}
 use Rattle.svo_top.specs.declared.outcome.Status.{Status}
 use Rattle.svo_top.specs.declared.outcome.Status.TheVariants.{Range}
 use Rattle.svo_top.specs.declared.outcome.RangeFault.{RangeFault}

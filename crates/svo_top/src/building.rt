@@ -7,7 +7,6 @@ ghost use Rattle.svo_top.specs.Causes.{DeviceCause};
 ghost use Rattle.svo_top.specs.Endings.{status_of, EndsBuild};
 ghost use Rattle.svo_top.specs.Ranges.{RangeIs, grid_of_words};
 
-use crate::form::BuildWords;
 use crate::input_text::{TextStop, read_text};
 use crate::outcome::{Device, InputKind, RangeFault, Status};
 use crate::planning::planned;
@@ -16,6 +15,7 @@ use dev_traits::{ByteSink, ByteSource, Failed};
 use plain_mesh::PlainFault;
 use std::alloc::Global;
 use svo_base::Grid;
+use svo_words::BuildWords;
 
 /// Builds the octree of the mesh on `input`, and puts its node file out. The mesh is read to its end
 /// and accepted before anything is put out.

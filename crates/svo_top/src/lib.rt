@@ -3,15 +3,12 @@
 
 mod building;
 mod filled_cells;
-mod form;
 mod input_text;
-mod numbers;
 mod outcome;
 mod planning;
 mod reporting;
 mod running;
 
-pub use form::{BuildWords, Command};
 pub use outcome::{Device, InputKind, RangeFault, Status, UsageKind};
 pub use running::run;
 

@@ -5,22 +5,23 @@ ghost use Rattle.dev_traits.specs.Change.{change_of};
 ghost use Rattle.svo_top.specs.Build.{BuildRun, BuildMeans};
 ghost use Rattle.svo_top.specs.Causes.{UsageCauses, RangeCauses, DeviceCause, KeepsInput, KeepsOutput, SaysWhy};
 ghost use Rattle.svo_top.specs.Endings.{status_of, EndsBuild};
-ghost use Rattle.svo_top.specs.Form.{form_of};
+ghost use Rattle.svo_top.specs.Usage.{status_of_fault};
+ghost use Rattle.svo_words.specs.Meaning.{Means};
 
 use crate::building::build;
-use crate::form::{BuildWords, Command, read_words};
-use crate::outcome::{Device, Status};
+use crate::outcome::{Device, Status, UsageKind};
 use crate::reporting::{Ending, report};
 use dev_traits::{ByteSink, ByteSource};
 use std::alloc::Global;
 use svo_base::Words;
+use svo_words::{BuildWords, Command, WordFault, read_words};
 
 /// Runs the command that the words are, over an input, an output, and an output for the one line that
 /// says how the run ended.
 ///
 /// `Done`: the command's work is done. `Usage`: the words are no command line. `Range`: a number among
 /// them is out of range. `Input`: the input was refused. `Device`: a device failed. `Memory`: memory
-/// ran out, while the command's input is read or its output is made.
+/// ran out, while the words or the command's input are read or its output is made.
 pub fn run<I: ByteSource, O: ByteSink, E: ByteSink>(
     alloc: Global,
     words: &Words,
@@ -35,14 +36,14 @@ pub fn run<I: ByteSource, O: ByteSink, E: ByteSink>(
     ensures write { DeviceCause Device.Write (change_of O.written O.faults out.old out.new) result }
 
     // What the run of a command does.
-    ensures build { (job : BuildWords) → form_of words.now ≡ Ok (Command.Build job) → BuildRun job
+    ensures build { (job : BuildWords) → Means words.now (Ok (Command.Build job)) → BuildRun job
         (change_of I.rest I.faults input.old input.new)
         (change_of O.written O.faults out.old out.new)
         (change_of E.written E.faults err.old err.new) result }
 
     // What a run that stops leaves as it was, and what it says.
-    ensures keeps_input { KeepsInput (change_of I.rest I.faults input.old input.new) result }
-    ensures keeps_output { KeepsOutput (change_of O.written O.faults out.old out.new) result }
+    ensures keeps_input { KeepsInput words.now (change_of I.rest I.faults input.old input.new) }
+    ensures keeps_output { KeepsOutput words.now (change_of O.written O.faults out.old out.new) result }
     ensures says_why { SaysWhy (change_of E.written E.faults err.old err.new) result }
 {
     let ending = carry_out(alloc, words, input, out);
@@ -61,17 +62,32 @@ fn carry_out<I: ByteSource, O: ByteSink>(
     ensures range { RangeCauses words.now (status_of result) }
     ensures read { DeviceCause Device.Read (change_of I.rest I.faults input.old input.new) (status_of result) }
     ensures write { DeviceCause Device.Write (change_of O.written O.faults out.old out.new) (status_of result) }
-    ensures build { (job : BuildWords) → form_of words.now ≡ Ok (Command.Build job) → BuildMeans job
+    ensures build { (job : BuildWords) → Means words.now (Ok (Command.Build job)) → BuildMeans job
         (change_of I.rest I.faults input.old input.new)
         (change_of O.written O.faults out.old out.new) (status_of result) }
-    ensures ends { (job : BuildWords) → form_of words.now ≡ Ok (Command.Build job) → EndsBuild job
+    ensures ends { (job : BuildWords) → Means words.now (Ok (Command.Build job)) → EndsBuild job
         (change_of I.rest I.faults input.old input.new)
         (change_of O.written O.faults out.old out.new) result }
-    ensures keeps_input { KeepsInput (change_of I.rest I.faults input.old input.new) (status_of result) }
-    ensures keeps_output { KeepsOutput (change_of O.written O.faults out.old out.new) (status_of result) }
+    ensures keeps_input { KeepsInput words.now (change_of I.rest I.faults input.old input.new) }
+    ensures keeps_output { KeepsOutput words.now (change_of O.written O.faults out.old out.new) (status_of result) }
 {
-    match read_words(words) {
-        Err(kind) => Ending::Stopped(Status::Usage(kind)),
-        Ok(Command::Build(job)) => build(alloc, &job, input, out),
+    let command = match read_words(alloc, words) {
+        Err(fault) => return Ending::Stopped(status_of_fault(fault)),
+        Ok(command) => command,
+    };
+    match command {
+        Command::Build(job) => build(alloc, &job, input, out),
+    }
+}
+
+/// How a run ends that could not read its words.
+fn status_of_fault(fault: WordFault) -> Status
+    ensures { result ≡ status_of_fault fault }
+{
+    match fault {
+        WordFault::Command => Status::Usage(UsageKind::Command),
+        WordFault::Options => Status::Usage(UsageKind::Options),
+        WordFault::Value => Status::Usage(UsageKind::Value),
+        WordFault::Memory => Status::Memory,
     }
 }

@@ -162,7 +162,7 @@ const CORNER_FILE: &[u64] = &[
 
 const FLAT_GRID: &[&str] = &["build", "--depth", "1", "--origin=0,0,0", "--cell", "1"];
 
-const DEEPER_GRID: &[&str] = &["build", "--depth=2", "--origin", "0,0,0", "--cell=1"];
+const DEEPER_GRID: &[&str] = &["build", "--cell=1", "--origin", "0,0,0", "--depth=2"];
 
 const FAR_GRID: &[&str] = &["build", "--depth", "1", "--origin=10,10,10", "--cell", "1"];
 
@@ -284,12 +284,25 @@ const WRONG_WORDS: &[(&[&str], Status, &str)] = &[
         "usage: command\n",
     ),
     (
+        &["--help"],
+        Status::Usage(UsageKind::Command),
+        "usage: command\n",
+    ),
+    (
         &["build", "--depth"],
         Status::Usage(UsageKind::Options),
         "usage: options\n",
     ),
     (
-        &["build", "--origin=0,0,0", "--depth", "1", "--cell", "1"],
+        &[
+            "build",
+            "--origin=0,0,0",
+            "--depth",
+            "1",
+            "--cell",
+            "1",
+            "--depth=1",
+        ],
         Status::Usage(UsageKind::Options),
         "usage: options\n",
     ),
