@@ -13,4 +13,6 @@ pub use outcome::{Device, InputKind, RangeFault, Status, UsageKind};
 pub use running::run;
 
 #[cfg(test)]
+mod error_output_tests;
+#[cfg(test)]
 mod tests;
