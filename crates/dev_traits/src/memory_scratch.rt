@@ -105,6 +105,7 @@ impl MemScratch {
 }
 
 impl Scratch for MemScratch {
+    ghost use Rattle.std.specs.Prelude.{refl};
     ghost use Rattle.dev_traits.specs.ScratchView.{StartsAsSet, AppendsAsSet, LooksAsSet};
 
     ghost told = { λ s. Some s.streams };
@@ -114,6 +115,8 @@ impl Scratch for MemScratch {
     ghost asked = { λ s. s.asked };
 
     ghost faults = { λ s. s.faults };
+
+    ghost all_told = { λ _. refl };
 
     fn start(&mut self, place: &str, streams: u32) -> Result<(), Failed>
         requires { self.old.asked ≡ None }

@@ -1,6 +1,6 @@
 //! What a scratch is: streams of bytes that grow at their ends and are read back at any place.
 
-ghost use Rattle.std.specs.Prelude.{◌≡◌, ◌<◌, ℕ, Option, None, Some, List, length, OnOk};
+ghost use Rattle.std.specs.Prelude.{◌≡◌, ◌<◌, ℕ, Option, None, Some, List, length, OnOk, IfSome};
 ghost use Rattle.dev_traits.specs.Faults.{HasCause};
 ghost use Rattle.dev_traits.specs.Streams.{Asked, asked_of, StartsEmpty, AppendsPiece, HasPiece, ReadsPiece, IsStreamLength};
 
@@ -57,4 +57,7 @@ pub trait Scratch {
         ensures started { started self.new ≡ started self.old }
         ensures asked { asked self.new ≡ asked self.old }
         ensures cause { HasCause (faults self.old) (faults self.new) result };
+
+    /// Where the streams are told, they are as many as are started.
+    ghost all_told: { (s : Self) → IfSome (told s) (λ streams. length streams ≡ started s) };
 }
