@@ -34,6 +34,9 @@ fn a_sink_takes_what_fits(rt: HostRuntime) {
     assert_eq!(rt; sink.put(b""), Ok(()), "an empty piece fits");
 }
 
+/// Pieces, and whether their puts are accepted.
+const PUTS: &[(&[u8], bool)] = &[(b"ab", true), (b"cd", false), (b"ef", false), (b"gh", true)];
+
 #[test]
 fn a_sink_refuses_the_calls_of_its_list(rt: HostRuntime) {
     let fails = [
@@ -41,13 +44,8 @@ fn a_sink_refuses_the_calls_of_its_list(rt: HostRuntime) {
         PartFail { call: 3, taken: 9 },
     ];
     let mut sink = MemSink::new(rt.alloc(), 16, &fails).expect(&rt, "memory");
-    for (piece, want) in [
-        (b"ab", Ok(())),
-        (b"cd", Err(Failed)),
-        (b"ef", Err(Failed)),
-        (b"gh", Ok(())),
-    ] {
-        assert_eq!(rt; sink.put(piece), want, "a put");
+    for (piece, accepted) in PUTS.iter().copied() {
+        assert_eq!(rt; sink.put(piece).is_ok(), accepted, "a put");
     }
     assert!(rt;
         sink.bytes() == b"abcefgh".as_slice(),
@@ -76,15 +74,15 @@ fn a_scratch_takes_what_fits_and_reads_it_back(rt: HostRuntime) {
     ];
     let mut scratch = MemScratch::new(rt.alloc(), 2, 5, &fails).expect(&rt, "memory");
     assert_eq!(rt; scratch.start("", 2), Ok(()), "start");
-    for (stream, piece, want) in [
-        (1, b"ab", Ok(())),
-        (1, b"cd", Err(Failed)),
-        (1, b"ef", Err(Failed)),
-        (1, b"gh", Ok(())),
-        (1, b"ij", Err(Failed)),
-    ] {
-        assert_eq!(rt; scratch.append(stream, piece), want, "an append");
-    }
+    assert_eq!(rt; scratch.append(1, b"ab"), Ok(()), "a piece that fits");
+    assert_eq!(rt; scratch.append(1, b"cd"), Err(Failed), "refused at once");
+    assert_eq!(rt;
+        scratch.append(1, b"ef"),
+        Err(Failed),
+        "refused after a byte"
+    );
+    assert_eq!(rt; scratch.append(1, b"gh"), Ok(()), "up to the room");
+    assert_eq!(rt; scratch.append(1, b"ij"), Err(Failed), "beyond the room");
     assert!(rt; scratch.stream(1) == b"abegh".as_slice(), "what was taken");
     assert_eq!(rt; scratch.length(1), Ok(5), "its length");
     let mut into = [0; 3];
@@ -101,13 +99,14 @@ fn a_scratch_takes_what_fits_and_reads_it_back(rt: HostRuntime) {
 }
 
 #[test]
+#[tactic(auto, unfolding(crate::specs::Files::file_named))]
 fn a_store_gives_its_files_by_name(rt: HostRuntime) {
     let mut store = MemStore::new(rt.alloc(), &[2, 6]).expect(&rt, "memory");
     store.add("a", b"first").expect(&rt, "memory");
     store.add("b", b"second").expect(&rt, "memory");
-    for (name, want) in [("a", Ok(true)), ("a", Err(Failed)), ("c", Ok(false))] {
-        assert_eq!(rt; store.holds(name), want, "holds");
-    }
+    assert_eq!(rt; store.holds("a"), Ok(true), "a name that is there");
+    assert_eq!(rt; store.holds("a"), Err(Failed), "a refused call");
+    assert_eq!(rt; store.holds("c"), Ok(false), "a name that is not there");
     assert_eq!(rt; store.select("b"), Ok(()), "the second file");
     assert_eq!(rt; store.length(), Ok(6), "its length");
     let mut into = [0; 4];
