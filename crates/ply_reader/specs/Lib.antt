@@ -1,0 +1,5 @@
+pub mod Declarations
+pub mod HeaderRules
+pub mod LineWords
+pub mod Names
+pub mod Ranges

@@ -1,0 +1,16 @@
+//! Reads a mesh in ASCII PLY ("The PLY Polygon File Format", Greg Turk, Stanford, 1994) as usual tools
+//! write it: any header, further properties and elements, faces of 3 to 255 corners.
+#![tactic(auto)]
+
+mod declarations;
+mod elements;
+mod fault;
+mod header;
+mod line_words;
+mod names;
+mod properties;
+
+pub use elements::{Element, Role};
+pub use fault::{PlyFault, PlyKind};
+pub use header::Header;
+pub use properties::{Part, Property, Scalar};
