@@ -1,2 +1,7 @@
+pub mod BodySteps
+pub mod HeaderRuns
+pub mod RowSteps
+pub mod Steps
+pub mod TokenRuns
 pub mod WithinRanges
 pub mod WordLists

@@ -1,5 +1,5 @@
 -- What the header lines that were taken declare.
-use Rattle.std.specs.Prelude.{ℕ, ◌+◌, ◌-◌, Bool, false, ◌==◌, if◌then◌else◌, List, [], ◌∷◌, ◌++◌, length, take, drop, slice_get, Option, None, Some}
+use Rattle.std.specs.Prelude.{ℕ, ◌+◌, ◌-◌, Bool, false, ◌||◌, ◌==◌, if◌then◌else◌, List, [], ◌∷◌, ◌++◌, length, take, drop, slice_get, Option, None, Some}
 use Rattle.std.specs.List.{list_any}
 use Rattle.ply_reader.specs.declared.elements.Element.{Element}
 use Rattle.ply_reader.specs.declared.elements.Role.{Role}
@@ -42,6 +42,9 @@ is_role a b = role_number a == role_number b
 
 abbrev pub is_part : Part → Part → Bool
 is_part a b = part_number a == part_number b
+
+abbrev pub is_coordinate : Part → Bool
+is_coordinate part = is_part X part || is_part Y part || is_part Z part
 
 -- an element of this role was declared
 abbrev pub has_role : Role → Declared → Bool

@@ -14,7 +14,7 @@ use Rattle.ply_reader.specs.declared.properties.Part.TheVariants.{X, Y, Z, Indic
 use Rattle.ply_reader.specs.declared.names.Keyword.{Keyword}
 use Rattle.ply_reader.specs.declared.names.Keyword.TheVariants.{Blank, Comment, Format, NewElement, NewProperty, EndHeader, Unknown}
 use Rattle.ply_reader.specs.Names.{scalar_of, is_whole_type, role_of, part_of, keyword_of}
-use Rattle.ply_reader.specs.Declarations.{Declared, is_role, is_part, has_role, has_part, role_in, last_role, with_element, with_property}
+use Rattle.ply_reader.specs.Declarations.{Declared, is_role, is_part, is_coordinate, has_role, has_part, role_in, last_role, with_element, with_property}
 
 -- whether a rule is broken, and the kind that it refuses by
 abbrev pub Rules : Type 0
@@ -88,7 +88,7 @@ is_list property = not (is_none property.counts)
 -- a coordinate is one value, the indices are a list of whole numbers, and each is there once at most
 unfoldable pub is_misplaced : Declared → Property → Bool
 is_misplaced d property =
-    if is_part X property.part || is_part Y property.part || is_part Z property.part then is_list property || has_part property.part d else
+    if is_coordinate property.part then is_list property || has_part property.part d else
     if is_part Indices property.part then not (is_list property) || not (is_whole_type property.values) || has_part Indices d else
     false
 
@@ -104,6 +104,10 @@ is_misplaced_one d (Some property) = is_misplaced d property
 -- vertices with their three coordinates
 abbrev pub has_vertices : Declared → Bool
 has_vertices d = has_role Vertex d && has_part X d && has_part Y d && has_part Z d
+
+-- faces with the list of their corners
+abbrev pub has_faces : Declared → Bool
+has_faces d = has_role Face d && has_part Indices d
 
 unfoldable pub first_rules : List (List ℕ) → Rules
 first_rules words = (not (is_only words (codes "ply")), NotPly) ∷ []
@@ -139,7 +143,7 @@ end_rules d words =
     (not d.format, BadFormat)
     ∷ (not (is_only words (codes "end_header")), BadHeader)
     ∷ (not (has_vertices d), NoVertexElement)
-    ∷ (not (has_role Face d && has_part Indices d), NoFaceElement)
+    ∷ (not (has_faces d), NoFaceElement)
     ∷ []
 
 -- the rules of a line, by its first word
@@ -211,3 +215,8 @@ pub record TakesBy (rules : Rules) (end : Bool) (old next new : Declared) (resul
   pub answer : result ≡ answer_of (first_broken rules) end
   pub taken : OnOk result (new ≡ next)
   pub refused : OnErr result (new ≡ old)
+
+-- what an accepted header has: vertices, and faces
+pub record HasMesh (d : Declared) : Type 0 where
+  pub vertices : has_vertices d ≡ true
+  pub faces : has_faces d ≡ true

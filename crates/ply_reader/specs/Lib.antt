@@ -1,5 +1,11 @@
+pub mod Bounds
+pub mod Cursors
 pub mod Declarations
 pub mod HeaderRules
+pub mod HeaderSteps
 pub mod LineWords
 pub mod Names
 pub mod Ranges
+pub mod Rows
+pub mod Runs
+pub mod TokenValues

@@ -7,7 +7,7 @@ use crate::declarations::{
     element_of, is_ascii_format, is_list, is_only, is_part, is_role, is_too_many, property_of,
 };
 use crate::elements::{Element, Role};
-use crate::fault::PlyKind;
+use crate::fault::{PlyFault, PlyKind};
 use crate::line_words::line_words;
 use crate::names::{Keyword, is_whole_type, keyword_of};
 use crate::properties::{Part, Property};
@@ -33,9 +33,10 @@ pub struct Header {
 }
 
 impl Header {
-    ghost use Rattle.std.specs.Prelude.{◌≡◌, ◌≤◌, ◌<◌, ◌+◌, length, false, true, slice_index_or, IfNone};
+    ghost use Rattle.std.specs.Prelude.{◌≡◌, ◌≤◌, ◌<◌, ◌+◌, length, false, true, slice_index_or, IfNone, IfOk, OnOk};
     ghost use Rattle.ply_reader.specs.Declarations.{declared, nothing_declared, has_role, has_part, last_role, with_property, properties_of};
-    ghost use Rattle.ply_reader.specs.HeaderRules.{TakesLine, TakesBy, first_rules, format_rules, element_rules, property_rules, end_rules, element_of, property_of, with_beginning, with_format, with_one_element, with_one_property, first_broken, is_misplaced, has_vertices};
+    ghost use Rattle.ply_reader.specs.HeaderRules.{TakesLine, TakesBy, first_rules, format_rules, element_rules, property_rules, end_rules, element_of, property_of, with_beginning, with_format, with_one_element, with_one_property, first_broken, is_misplaced, has_vertices, HasMesh};
+    ghost use Rattle.ply_reader.specs.HeaderSteps.{cut_off};
     ghost use Rattle.ply_reader.specs.LineWords.{line_words, texts};
 
     /// A header of no line.
@@ -58,7 +59,8 @@ impl Header {
     /// header is then as it was.
     #[tactic(auto, unfolding(crate::specs::HeaderRules::rules_of, crate::specs::HeaderRules::after, crate::specs::HeaderRules::is_end))]
     pub fn take(&mut self, line: &[u8]) -> Result<bool, PlyKind>
-        ensures { TakesLine (line_words line.now) (declared self.old) (declared self.new) result }
+        ensures line { TakesLine (line_words line.now) (declared self.old) (declared self.new) result }
+        ensures mesh { IfOk result (λ ended. ended ≡ true → HasMesh (declared self.new)) }
     {
         let words = line_words(line);
         let words = words.as_slice();
@@ -163,8 +165,9 @@ impl Header {
 
     #[tactic(auto, unfolding(crate::specs::HeaderRules::end_rules))]
     fn take_end(&self, words: &[&[u8]]) -> Result<bool, PlyKind>
-        ensures { TakesBy (end_rules (declared self.now) (texts words.now)) true (declared self.now)
+        ensures line { TakesBy (end_rules (declared self.now) (texts words.now)) true (declared self.now)
             (declared self.now) (declared self.now) result }
+        ensures mesh { OnOk result (HasMesh (declared self.now)) }
     {
         if !self.format {
             return Err(PlyKind::BadFormat);
@@ -300,5 +303,19 @@ impl Header {
             });
         }
         self.properties.push(property);
+    }
+
+    /// The refusal of a text that ends at this place, before its header does.
+    pub(crate) fn cut_off(&self, place: u64) -> PlyFault
+        ensures { result ≡ cut_off (declared self.now) place }
+    {
+        PlyFault::Refused {
+            kind: if self.begun {
+                PlyKind::Truncated
+            } else {
+                PlyKind::NotPly
+            },
+            place,
+        }
     }
 }

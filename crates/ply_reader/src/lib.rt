@@ -4,13 +4,21 @@
 
 mod declarations;
 mod elements;
+mod faces;
+mod fans;
 mod fault;
 mod header;
+mod header_lines;
 mod line_words;
 mod names;
 mod properties;
+mod rows;
+mod scales;
+mod taking;
+mod vertices;
 
 pub use elements::{Element, Role};
+pub use fans::FaceTriangle;
 pub use fault::{PlyFault, PlyKind};
 pub use header::Header;
 pub use properties::{Part, Property, Scalar};
