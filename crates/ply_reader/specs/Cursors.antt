@@ -52,3 +52,8 @@ token_read read c (Ok (Some token)) = with_cursor (behind_token c) (read token)
 -- a step over the next token
 unfoldable pub taken : {A : Type 0} → (Piece → Result A PlyFault) → Step A
 taken read c = token_read read c (next_token_of c.place c.text)
+
+-- a result with its value changed
+abbrev pub mapped : {A B : Type 0} → (A → B) → Result A PlyFault → Result B PlyFault
+mapped f (Ok a) = Ok (f a)
+mapped f (Err fault) = Err fault

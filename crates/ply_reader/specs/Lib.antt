@@ -3,8 +3,10 @@ pub mod Cursors
 pub mod Declarations
 pub mod HeaderRules
 pub mod HeaderSteps
+pub mod Layout
 pub mod LineWords
 pub mod Names
+pub mod PlyMeaning
 pub mod Ranges
 pub mod Rows
 pub mod Runs

@@ -4,7 +4,7 @@ ghost use Rattle.std.specs.Prelude.{◌≡◌, ◌<◌, None, IfOk, true};
 ghost use Rattle.ply_text.specs.Reading.{reading};
 ghost use Rattle.ply_text.specs.Calls.{SameLent};
 ghost use Rattle.ply_reader.specs.Declarations.{declared};
-ghost use Rattle.std.specs.Result.{result_map};
+ghost use Rattle.ply_reader.specs.Cursors.{mapped};
 ghost use Rattle.ply_reader.specs.HeaderRules.{HasMesh};
 ghost use Rattle.ply_reader.specs.HeaderSteps.{whole_header, header_line, taken_from, refused_at};
 ghost use Rattle.ply_reader.specs.Runs.{Runs};
@@ -19,7 +19,7 @@ use ply_text::Tokens;
 pub(crate) fn read_header<I: ByteSource>(tokens: &mut Tokens<'_, I>) -> Result<Header, PlyFault>
     requires free { tokens.old.stopped ≡ None }
     ensures same { SameLent tokens.old tokens.new }
-    ensures runs { Runs whole_header (reading tokens.old) (reading tokens.new) (result_map declared result) }
+    ensures runs { Runs whole_header (reading tokens.old) (reading tokens.new) (mapped declared result) }
     ensures mesh { IfOk result (λ header. HasMesh (declared header)) }
 {
     let mut header = Header::new();
@@ -35,7 +35,7 @@ fn take_line<I: ByteSource>(
     requires free { tokens.old.stopped ≡ None }
     ensures same { SameLent tokens.old tokens.new }
     ensures runs { Runs (header_line (declared header.old)) (reading tokens.old) (reading tokens.new)
-        (result_map (taken_from (declared header.new)) result) }
+        (mapped (taken_from (declared header.new)) result) }
     ensures onward { IfOk result (λ _. tokens.old.place < tokens.new.place) }
     ensures mesh { IfOk result (λ ended. ended ≡ true → HasMesh (declared header.new)) }
 {
