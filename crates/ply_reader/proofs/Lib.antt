@@ -1,4 +1,5 @@
 pub mod BodySteps
+pub mod FewElements
 pub mod HeaderRuns
 pub mod RowSteps
 pub mod Steps

@@ -4,6 +4,7 @@ use Rattle.std.specs.List.{prefix_len}
 use Rattle.ply_reader.specs.declared.elements.Element.{Element}
 use Rattle.ply_reader.specs.declared.elements.Role.{Role}
 use Rattle.ply_reader.specs.declared.elements.Role.TheVariants.{Vertex, Face}
+use Rattle.ply_reader.specs.declared.layouts.Layout.{Layout}
 use Rattle.ply_reader.specs.declared.properties.Property.{Property}
 use Rattle.ply_reader.specs.declared.properties.Part.TheVariants.{Indices}
 use Rattle.ply_reader.specs.Declarations.{Declared, is_role, is_part, properties_of}
@@ -52,3 +53,13 @@ vertex_count d = (element_in Vertex d).count
 
 abbrev pub face_count : Declared → ℕ
 face_count d = (element_in Face d).count
+
+-- all of this at once
+abbrev pub layout_of : Declared → Layout
+layout_of d = record {
+  vertex_at = first_of Vertex d;
+  face_at = first_of Face d;
+  list_at = list_place (face_properties d);
+  vertex = element_in Vertex d;
+  face = element_in Face d;
+}

@@ -5,6 +5,7 @@ pub mod HeaderRules
 pub mod HeaderSteps
 pub mod Layout
 pub mod LineWords
+pub mod MeshCalls
 pub mod Names
 pub mod PlyMeaning
 pub mod Ranges

@@ -1,9 +1,10 @@
 //! What the words of a header line declare.
 
-ghost use Rattle.std.specs.Prelude.{◌≡◌, Some, IfSome};
+ghost use Rattle.std.specs.Prelude.{◌≡◌, Some, IfSome, false};
 ghost use Rattle.ply_reader.specs.Declarations.{is_role, is_part};
 ghost use Rattle.ply_reader.specs.HeaderRules.{is_only, is_ascii_format, count_of, element_of, property_of, single_property, list_property, is_list, is_too_many};
 ghost use Rattle.ply_reader.specs.LineWords.{texts};
+ghost use Rattle.ply_reader.specs.Ranges.{IsFew};
 
 use crate::elements::{Element, Role};
 use crate::names::{is_whole_type, part_of, role_of, scalar_of};
@@ -126,7 +127,8 @@ pub(crate) fn is_list(property: &Property) -> bool
 
 /// Whether an element has more vertices or faces than a mesh may have.
 pub(crate) fn is_too_many(element: &Element) -> bool
-    ensures { result ≡ is_too_many (Some element.now) }
+    ensures value { result ≡ is_too_many (Some element.now) }
+    ensures few { result ≡ false → IsFew element.now }
 {
     match element.role {
         Role::Vertex | Role::Face => element.count > MAX_COUNT,

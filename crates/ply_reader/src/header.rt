@@ -1,7 +1,7 @@
 //! The header of a mesh text.
 
 ghost use Rattle.std.specs.Prelude.{length};
-ghost use Rattle.ply_reader.specs.Ranges.{AreWithin};
+ghost use Rattle.ply_reader.specs.Ranges.{AreWithin, AreFew};
 
 use crate::declarations::{
     element_of, is_ascii_format, is_list, is_only, is_part, is_role, is_too_many, property_of,
@@ -11,6 +11,7 @@ use crate::fault::{PlyFault, PlyKind};
 use crate::line_words::line_words;
 use crate::names::{Keyword, is_whole_type, keyword_of};
 use crate::properties::{Part, Property};
+use crate::slices::some_of;
 use arrayvec::ArrayVec;
 
 /// The most elements of a header.
@@ -30,12 +31,14 @@ pub struct Header {
     elements: ArrayVec<Element, MAX_ELEMENTS>,
     properties: ArrayVec<Property, MAX_PROPERTIES>,
     ghost within: { AreWithin (length properties.items) elements.items },
+    ghost few: { AreFew elements.items },
 }
 
 impl Header {
-    ghost use Rattle.std.specs.Prelude.{◌≡◌, ◌≤◌, ◌<◌, ◌+◌, length, false, true, slice_index_or, IfNone, IfOk, OnOk};
+    ghost use Rattle.std.specs.Prelude.{◌≡◌, ◌≤◌, ◌<◌, ◌+◌, length, false, true, slice_index_or, IfNone, IfSome, IfOk, OnOk};
     ghost use Rattle.ply_reader.specs.Declarations.{declared, nothing_declared, has_role, has_part, last_role, with_property, properties_of};
     ghost use Rattle.ply_reader.specs.HeaderRules.{TakesLine, TakesBy, first_rules, format_rules, element_rules, property_rules, end_rules, element_of, property_of, with_beginning, with_format, with_one_element, with_one_property, first_broken, is_misplaced, has_vertices, HasMesh};
+    ghost use Rattle.ply_reader.specs.Ranges.{IsFew};
     ghost use Rattle.ply_reader.specs.HeaderSteps.{cut_off};
     ghost use Rattle.ply_reader.specs.LineWords.{line_words, texts};
 
@@ -105,10 +108,18 @@ impl Header {
     pub(crate) fn properties_of(&self, element: &Element) -> &[Property]
         ensures { result.now ≡ properties_of (declared self.now) element.now }
     {
-        let all = self.properties.as_slice();
-        let (_, behind) = all.split_at(element.first.min(all.len()));
-        let (own, _) = behind.split_at(element.properties.min(behind.len()));
-        own
+        some_of(
+            self.properties.as_slice(),
+            element.first,
+            element.properties,
+        )
+    }
+
+    /// All elements.
+    pub(crate) fn all_elements(&self) -> &[Element]
+        ensures { result.now ≡ (declared self.now).elements }
+    {
+        self.elements.as_slice()
     }
 
     #[tactic(auto, unfolding(crate::specs::HeaderRules::first_rules))]
@@ -189,6 +200,7 @@ impl Header {
     fn element_fault(&self, element: &Option<Element>) -> Option<PlyKind>
         ensures fault { result ≡ first_broken (element_rules (declared self.now) element.now) }
         ensures room { IfNone result (length (declared self.now).elements < 16) }
+        ensures few { IfNone result (IfSome element.now IsFew) }
     {
         if !self.format {
             return Some(PlyKind::BadFormat);
