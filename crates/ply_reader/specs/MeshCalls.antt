@@ -11,6 +11,7 @@ use Rattle.ply_reader.specs.declared.fault.PlyFault.TheVariants.{ReadFault}
 use Rattle.ply_reader.specs.declared.fans.Fan.{Fan}
 use Rattle.ply_reader.specs.declared.fans.FaceTriangle.{FaceTriangle}
 use Rattle.ply_reader.specs.declared.scales.Scale.{Scale}
+use Rattle.ply_reader.specs.declared.body.Body.{Body}
 use Rattle.ply_reader.specs.declared.mesh.MeshReader.{MeshReader}
 use Rattle.ply_reader.specs.Declarations.{Declared, declared}
 use Rattle.ply_reader.specs.Layout.{vertex_count, face_count}
@@ -20,11 +21,10 @@ use Rattle.ply_reader.specs.PlyMeaning.{Outcome, stopped_by, ended_at, give_poin
 use Rattle.ply_reader.specs.Runs.{refused_place}
 use Rattle.ply_reader.specs.Bounds.{IsNear}
 
--- the text that is read; why the reader stopped; the scale; what the header declares; how many vertices are left;
--- whether the elements before the faces are still to be passed; how many faces are left whose corners were not begun; the face whose corners are being read
-pub record MeshReading : Type 0 where
+-- the text that is read; the scale; what the header declares; how many vertices are left; whether the elements before the faces are still to be passed;
+-- how many faces are left whose corners were not begun; the face whose corners are being read
+pub record BodyReading : Type 0 where
   pub text : Reading
-  pub stopped : Option PlyFault
   pub scale : Scale
   pub header : Declared
   pub vertices : ℕ
@@ -32,18 +32,25 @@ pub record MeshReading : Type 0 where
   pub faces : ℕ
   pub fan : Option Fan
 
+abbrev pub body_reading : Reading → Body → BodyReading
+body_reading text body = record {
+  text = text;
+  scale = body.scale;
+  header = declared body.header;
+  vertices = body.vertices;
+  waits = body.waits;
+  faces = body.faces;
+  fan = body.fan;
+}
+
+-- a reader: what it has still to read, and why it stopped
+pub record MeshReading : Type 0 where
+  pub body : BodyReading
+  pub stopped : Option PlyFault
+
 module _ {I : Type 0} {g : Ghosts I} where
   abbrev pub mesh_reading : MeshReader I g → MeshReading
-  mesh_reading reader = record {
-    text = reading reader.tokens;
-    stopped = reader.stopped;
-    scale = reader.scale;
-    header = declared reader.header;
-    vertices = reader.vertices;
-    waits = reader.waits;
-    faces = reader.faces;
-    fan = reader.fan;
-  }
+  mesh_reading reader = record { body = body_reading (reading reader.tokens) reader.body; stopped = reader.stopped }
 
 -- the faces left, and the rest of the one that was begun
 abbrev pub begun_rest : Declared → ℕ → Option Fan → Cursor → Outcome
@@ -55,16 +62,16 @@ waiting_rest d true faces fan = face_element_rest d
 waiting_rest d false faces fan = begun_rest d faces fan
 
 -- what the bytes left give
-unfoldable pub rest_of : MeshReading → List ℕ → Outcome
+unfoldable pub rest_of : BodyReading → List ℕ → Outcome
 rest_of r text = vertices_rest r.scale r.header r.vertices (waiting_rest r.header r.waits r.faces r.fan) (at r.text.place text)
 
 -- the scale and the header stay
-pub record SameHeader (old new : MeshReading) : Type 0 where
+pub record SameHeader (old new : BodyReading) : Type 0 where
   pub scale : new.scale ≡ old.scale
   pub header : new.header ≡ old.header
 
 -- what a call of a reader that was not stopped does: for told bytes it takes what it answers off what the bytes left give
-pub record MeshRun {A : Type 0} (give : A → Outcome → Outcome) (old new : MeshReading) (result : Result A PlyFault) : Type 0 where
+pub record MeshRun {A : Type 0} (give : A → Outcome → Outcome) (old new : BodyReading) (result : Result A PlyFault) : Type 0 where
   pub same : SameHeader old new
   pub later : old.text.faults ≤ new.text.faults
   pub failed : result ≡ Err ReadFault → Rose old.text.faults new.text.faults
@@ -79,7 +86,7 @@ pub record MeshRun {A : Type 0} (give : A → Outcome → Outcome) (old new : Me
 pub record MeshCall {A : Type 0} (give : A → Outcome → Outcome) (old new : MeshReading) (result : Result A PlyFault) : Type 0 where
   pub stays : (fault : PlyFault) → old.stopped ≡ Some fault → (result ≡ Err fault) × (new ≡ old)
   pub stops : new.stopped ≡ result_err result
-  pub run : old.stopped ≡ None → MeshRun give old new result
+  pub run : old.stopped ≡ None → MeshRun give old.body new.body result
 
 -- nothing is taken, or one item
 abbrev pub give_nothing : {A : Type 0} → A → Outcome → Outcome
@@ -97,32 +104,33 @@ give_face (Some triangle) o = give_triangle triangle o
 abbrev pub give_end : ℕ → Outcome → Outcome
 give_end size o = ended_at size
 
+-- a body at its first vertex
+abbrev pub start_of : Reading → Scale → Declared → BodyReading
+start_of text scale d =
+    record { text = text; scale = scale; header = d; vertices = vertex_count d; waits = true; faces = face_count d; fan = None }
+
 -- how a reader begins: at the vertices, or stopped by what it met before them
 pub record Begins (scale : Scale) (old : Reading) (new : MeshReading) : Type 0 where
-  pub scale_is : new.scale ≡ scale
-  pub later : old.faults ≤ new.text.faults
-  pub failed : new.stopped ≡ Some ReadFault → Rose old.faults new.text.faults
-  pub reached : IfSome new.stopped (λ fault. refused_place fault ≤ new.text.place + new.text.ahead)
-  pub stands : (text : List ℕ) → StandsIn text old → StandsIn text new.text
-  pub counts : (new.vertices ≡ vertex_count new.header) × (new.faces ≡ face_count new.header)
+  pub start : new.body ≡ start_of new.body.text scale new.body.header
+  pub later : old.faults ≤ new.body.text.faults
+  pub failed : new.stopped ≡ Some ReadFault → Rose old.faults new.body.text.faults
+  pub reached : IfSome new.stopped (λ fault. refused_place fault ≤ new.body.text.place + new.body.text.ahead)
+  pub stands : (text : List ℕ) → StandsIn text old → StandsIn text new.body.text
   pub told : (text : List ℕ) → old.left ≡ Some text → new.stopped ≢ Some ReadFault → MatchOption new.stopped
-      ((rest : List ℕ) × (new.text.left ≡ Some rest) × (reach (whole_header (at old.place text)) (body_rest scale) ≡ rest_of new rest))
+      ((rest : List ℕ) × (new.body.text.left ≡ Some rest) × (reach (whole_header (at old.place text)) (body_rest scale) ≡ rest_of new.body rest))
       (λ fault. reach (whole_header (at old.place text)) (body_rest scale) ≡ stopped_by fault)
 
--- the vertices are used up; so are the faces
-abbrev pub HasNoVertex : MeshReading → Type 0
-HasNoVertex r = r.stopped ≡ None → r.vertices ≡ 0
-
+-- no face is left, and no corner of one
 abbrev pub HasNoCorner : Option Fan → Type 0
 HasNoCorner fan = IfSome fan (λ f. f.left ≡ 0)
 
-pub record HasNoFace (r : MeshReading) : Type 0 where
+pub record HasNoFace (r : BodyReading) : Type 0 where
   pub vertices : r.vertices ≡ 0
   pub faces : r.faces ≡ 0
   pub corners : HasNoCorner r.fan
 
 -- a vertex was given, or none was left
-abbrev pub CountsVertex : MeshReading → MeshReading → Option Point → Type 0
+abbrev pub CountsVertex : BodyReading → BodyReading → Option Point → Type 0
 CountsVertex old new None = (old.vertices ≡ 0) × (new ≡ old)
 CountsVertex old new (Some point) = (old.vertices ≡ new.vertices + 1) × IsNear point
 
@@ -132,6 +140,12 @@ pub record IsWithinMesh (d : Declared) (triangle : FaceTriangle) : Type 0 where
   pub corners : All (λ corner. corner < vertex_count d) triangle.corners
 
 -- a triangle was given, or none was left
-abbrev pub CountsFace : MeshReading → MeshReading → Option FaceTriangle → Type 0
+abbrev pub CountsFace : BodyReading → BodyReading → Option FaceTriangle → Type 0
 CountsFace old new None = HasNoFace new
-CountsFace old new (Some triangle) = IsWithinMesh old.header triangle
+CountsFace old new (Some triangle) = IsWithinMesh old.header triangle × (new.vertices ≡ old.vertices)
+
+-- the text was read to its end, and its length is given
+pub record AtEnd (old new : Reading) (size : ℕ) : Type 0 where
+  pub size_is : size ≡ new.place
+  pub read : new.ahead ≡ 0
+  pub nothing : (text : List ℕ) → old.left ≡ Some text → new.left ≡ Some []

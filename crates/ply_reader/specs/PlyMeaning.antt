@@ -12,7 +12,7 @@ use Rattle.ply_reader.specs.declared.fans.FaceTriangle.{FaceTriangle}
 use Rattle.ply_reader.specs.declared.scales.Scale.{Scale}
 use Rattle.ply_reader.specs.Declarations.{Declared}
 use Rattle.ply_reader.specs.Layout.{before_vertices, before_faces, behind_faces, vertex_properties, before_list, behind_list, vertex_count, face_count}
-use Rattle.ply_reader.specs.Cursors.{Cursor, at, ply_fault}
+use Rattle.ply_reader.specs.Cursors.{Cursor, Step, at, onward, done, ply_fault}
 use Rattle.ply_reader.specs.Rows.{row_passed, elements_passed, vertex_row, origin, corner, fan_opened}
 use Rattle.ply_reader.specs.HeaderSteps.{whole_header}
 
@@ -40,14 +40,17 @@ abbrev pub reach : {A : Type 0} → Result (A × Cursor) PlyFault → (A → Cur
 reach (Ok found) next = next found.0 found.1
 reach (Err fault) next = stopped_by fault
 
--- only white space may follow the last element
-abbrev pub end_by : Cursor → Result (Option ℕ) TextFault → Outcome
-end_by c (Err fault) = stopped_by (ply_fault fault)
-end_by c (Ok (Some place)) = stopped_by (Refused TrailingData place)
-end_by c (Ok None) = ended_at (c.place + length c.text)
+-- only white space may follow the last element; the text then ends at its length
+abbrev pub end_by : Cursor → Result (Option ℕ) TextFault → Result (ℕ × Cursor) PlyFault
+end_by c (Err fault) = Err (ply_fault fault)
+end_by c (Ok (Some place)) = Err (Refused TrailingData place)
+end_by c (Ok None) = Ok (c.place + length c.text, at (c.place + length c.text) [])
 
-unfoldable pub text_end : Cursor → Outcome
-text_end c = end_by c (next_place_of c.place c.text)
+unfoldable pub text_ended : Step ℕ
+text_ended c = end_by c (next_place_of c.place c.text)
+
+abbrev pub text_end : Cursor → Outcome
+text_end c = reach (text_ended c) (λ size _. ended_at size)
 
 -- the elements behind the faces, and the end
 unfoldable pub behind_rest : Declared → Cursor → Outcome
@@ -81,6 +84,10 @@ face_element_rest d c = reach (elements_passed d (before_faces d) c) (λ _. face
 unfoldable pub body_rest : Scale → Declared → Cursor → Outcome
 body_rest scale d c =
     reach (elements_passed d (before_vertices d) c) (λ _. vertices_rest scale d (vertex_count d) (face_element_rest d))
+
+-- the header, and the elements before the vertices
+unfoldable pub vertices_reached : Step Declared
+vertices_reached c = onward (whole_header c) (λ d c. onward (elements_passed d (before_vertices d) c) (λ _. done d))
 
 unfoldable pub outcome_of : Scale → List ℕ → Outcome
 outcome_of scale text = reach (whole_header (at 0 text)) (body_rest scale)

@@ -11,7 +11,7 @@ use crate::fault::{PlyFault, PlyKind};
 use crate::line_words::line_words;
 use crate::names::{Keyword, is_whole_type, keyword_of};
 use crate::properties::{Part, Property};
-use crate::slices::some_of;
+use crate::slices::{all_from, first_ones};
 use arrayvec::ArrayVec;
 
 /// The most elements of a header.
@@ -108,9 +108,8 @@ impl Header {
     pub(crate) fn properties_of(&self, element: &Element) -> &[Property]
         ensures { result.now ≡ properties_of (declared self.now) element.now }
     {
-        some_of(
-            self.properties.as_slice(),
-            element.first,
+        first_ones(
+            all_from(self.properties.as_slice(), element.first),
             element.properties,
         )
     }

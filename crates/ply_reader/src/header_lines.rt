@@ -7,16 +7,19 @@ ghost use Rattle.ply_reader.specs.Declarations.{declared};
 ghost use Rattle.ply_reader.specs.Cursors.{mapped};
 ghost use Rattle.ply_reader.specs.HeaderRules.{HasMesh};
 ghost use Rattle.ply_reader.specs.HeaderSteps.{whole_header, header_line, taken_from, refused_at};
+ghost use Rattle.ply_reader.specs.PlyMeaning.{vertices_reached};
 ghost use Rattle.ply_reader.specs.Runs.{Runs};
 
 use crate::fault::{PlyFault, PlyKind};
 use crate::header::Header;
+use crate::layouts::before_vertices;
+use crate::rows::pass_elements;
 use crate::taking::of_text;
 use dev_traits::ByteSource;
 use ply_text::Tokens;
 
 /// Takes the header of a text, with the line `end_header`.
-pub(crate) fn read_header<I: ByteSource>(tokens: &mut Tokens<'_, I>) -> Result<Header, PlyFault>
+fn read_header<I: ByteSource>(tokens: &mut Tokens<'_, I>) -> Result<Header, PlyFault>
     requires free { tokens.old.stopped ≡ None }
     ensures same { SameLent tokens.old tokens.new }
     ensures runs { Runs whole_header (reading tokens.old) (reading tokens.new) (mapped declared result) }
@@ -24,6 +27,19 @@ pub(crate) fn read_header<I: ByteSource>(tokens: &mut Tokens<'_, I>) -> Result<H
 {
     let mut header = Header::new();
     while !take_line(tokens, &mut header)? {}
+    Ok(header)
+}
+
+/// Takes the header of a text, and passes the elements before the vertices.
+pub(crate) fn read_to_vertices<I: ByteSource>(
+    tokens: &mut Tokens<'_, I>,
+) -> Result<Header, PlyFault>
+    requires free { tokens.old.stopped ≡ None }
+    ensures same { SameLent tokens.old tokens.new }
+    ensures runs { Runs vertices_reached (reading tokens.old) (reading tokens.new) (mapped declared result) }
+{
+    let header = read_header(tokens)?;
+    pass_elements(tokens, &header, before_vertices(&header))?;
     Ok(header)
 }
 

@@ -3,12 +3,13 @@
 ghost use Rattle.std.specs.Prelude.{◌≡◌, ◌<◌, ◌^◌, not, slice_index_or};
 ghost use Rattle.std.specs.List.{prefix_len};
 ghost use Rattle.ply_reader.specs.Declarations.{declared, is_role, is_part};
-ghost use Rattle.ply_reader.specs.Layout.{layout_of, no_element, list_place};
+ghost use Rattle.ply_reader.specs.Layout.{layout_of, before_vertices, no_element, list_place};
 
 use crate::declarations::{is_part, is_role};
 use crate::elements::{Element, Role};
 use crate::header::Header;
 use crate::properties::{Part, Property};
+use crate::slices::first_ones;
 
 /// The numbers of the elements `vertex` and `face`, the elements themselves, and the number of the
 /// list of corners among the properties of a face.
@@ -46,6 +47,14 @@ pub(crate) fn layout_of(header: &Header) -> Layout
         vertex: element_at(elements, vertex_at),
         face,
     }
+}
+
+/// The elements before the vertices.
+pub(crate) fn before_vertices(header: &Header) -> &[Element]
+    ensures { result.now ≡ before_vertices (declared header.now) }
+{
+    let elements = header.all_elements();
+    first_ones(elements, first_of(Role::Vertex, elements))
 }
 
 /// The number of the first element of a role.

@@ -2,6 +2,7 @@
 //! write it: any header, further properties and elements, faces of 3 to 255 corners.
 #![tactic(auto)]
 
+mod body;
 mod declarations;
 mod elements;
 mod faces;

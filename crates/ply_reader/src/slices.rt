@@ -1,14 +1,13 @@
 //! Parts of slices that are cut short where there is less.
 
-ghost use Rattle.std.specs.Prelude.{◌≡◌, take, drop};
+ghost use Rattle.std.specs.Prelude.{◌≡◌, ◌+◌, take, drop};
 
-/// The items from one on, as many as this or all.
-pub(crate) fn some_of<T>(items: &[T], from: usize, count: usize) -> &[T]
-    ensures { result.now ≡ take count (drop from items.now) }
+/// The first items, so many or all.
+pub(crate) fn first_ones<T>(items: &[T], count: usize) -> &[T]
+    ensures { result.now ≡ take count items.now }
 {
-    let behind = all_from(items, from);
-    let (some, _) = behind.split_at(count.min(behind.len()));
-    some
+    let (first, _) = items.split_at(count.min(items.len()));
+    first
 }
 
 /// The items from one on.
@@ -17,4 +16,14 @@ pub(crate) fn all_from<T>(items: &[T], from: usize) -> &[T]
 {
     let (_, behind) = items.split_at(from.min(items.len()));
     behind
+}
+
+/// The items behind one.
+pub(crate) fn all_behind<T>(items: &[T], at: usize) -> &[T]
+    ensures { result.now ≡ drop (at + 1) items.now }
+{
+    match all_from(items, at).split_first() {
+        Some((_, behind)) => behind,
+        None => &[],
+    }
 }

@@ -1,6 +1,6 @@
 //! Single tokens of the body.
 
-ghost use Rattle.std.specs.Prelude.{◌≡◌, ◌≤◌, ◌<◌, ◌^◌, None, Err, IfOk, unsigned_abs};
+ghost use Rattle.std.specs.Prelude.{◌≡◌, ◌≤◌, ◌<◌, ◌^◌, None, Some, ℕ, List, [], IfOk, unsigned_abs};
 ghost use Rattle.ply_text.specs.Reading.{reading};
 ghost use Rattle.ply_text.specs.Calls.{SameLent};
 ghost use Rattle.ply_text.specs.Fixed.{fixed_of};
@@ -8,6 +8,7 @@ ghost use Rattle.ply_text.specs.Wholes.{whole_of};
 ghost use Rattle.ply_reader.specs.Cursors.{taken, ply_fault};
 ghost use Rattle.ply_reader.specs.TokenValues.{unread, whole_in, within_bounds, coordinate, placed, number_kind};
 ghost use Rattle.ply_reader.specs.Runs.{Runs};
+ghost use Rattle.ply_reader.specs.PlyMeaning.{text_ended};
 
 use crate::fault::{PlyFault, PlyKind};
 use crate::scales::Scale;
@@ -76,6 +77,24 @@ pub(crate) fn take_coordinate<I: ByteSource>(
             )
         }
         Ok(None) => Err(truncated(tokens.place())),
+        Err(fault) => Err(of_text(fault)),
+    }
+}
+
+/// Passes the white space at the end of the text, and gives the text's length.
+pub(crate) fn take_end<I: ByteSource>(tokens: &mut Tokens<'_, I>) -> Result<u64, PlyFault>
+    requires free { tokens.old.stopped ≡ None }
+    ensures same { SameLent tokens.old tokens.new }
+    ensures runs { Runs text_ended (reading tokens.old) (reading tokens.new) result }
+    ensures ended { IfOk result (λ size. (size ≡ tokens.new.place) × ((reading tokens.new).ahead ≡ 0)) }
+    ensures nothing { (text : List ℕ) → (reading tokens.old).left ≡ Some text → IfOk result (λ _. (reading tokens.new).left ≡ Some []) }
+{
+    match tokens.next_place() {
+        Ok(None) => Ok(tokens.place()),
+        Ok(Some(place)) => Err(PlyFault::Refused {
+            kind: PlyKind::TrailingData,
+            place,
+        }),
         Err(fault) => Err(of_text(fault)),
     }
 }
