@@ -1,5 +1,5 @@
 -- Calls that take one step after the other.
-use Rattle.std.proofs.Common.{◌≡◌, ◌≢◌, ℕ, ◌+◌, ◌≤◌, List, refl, sym, ap, ◌∙◌, subst, arith, Option, None, Some, Result, Ok, Err, IfOk, IfErr, le_refl, le_trans}
+use Rattle.std.proofs.Common.{◌≡◌, ◌≢◌, ℕ, ◌+◌, ◌≤◌, List, refl, sym, ap, ◌∙◌, subst, arith, Option, None, Some, Result, Ok, Err, IfOk, IfErr, le_refl, le_trans, ⊎_elim, inl, inr}
 use Rattle.std.specs.Result.{IsErr, IsErrAnd}
 use Rattle.dev_traits.specs.Faults.{Rose}
 use Rattle.ply_text.specs.Reading.{Reading, StandsIn}
@@ -10,7 +10,7 @@ use Rattle.ply_reader.specs.Runs.{Gives, Runs, Comes, refused_place}
 
 -- a count that rose later rose
 pub rose_later : (a b c : ℕ) → a ≤ b → Rose b c → Rose a c
-rose_later a b c le rose = omega (arith, le, rose)
+rose_later a b c le = ⊎_elim (λ less. inl (omega (arith, le, less))) (λ last. inr last)
 
 abbrev no_fault : {A : Type 0} → A → Result A PlyFault
 no_fault x = Ok x

@@ -3,7 +3,7 @@ use Rattle.std.proofs.Common.{◌≡◌, ◌≢◌, ℕ, ◌+◌, ◌≤◌, Boo
 use Rattle.ply_text.specs.Pieces.{Piece}
 use Rattle.ply_text.specs.NextPieces.{next_token_of, token_size}
 use Rattle.ply_text.specs.Reading.{Reading}
-use Rattle.ply_text.specs.Calls.{TokenCall, answered, token_piece, fault_place}
+use Rattle.ply_text.specs.Calls.{TokenCall, answered, token_piece, fault_end}
 use Rattle.ply_text.specs.declared.fault.TextFault.{TextFault}
 use Rattle.ply_text.specs.declared.fault.TextFault.TheVariants as texts
 use Rattle.ply_text.specs.declared.tokens.Token.{Token}
@@ -69,11 +69,11 @@ read_fault (texts.TokenTooLong place) e = absurd (cc e)
 read_fault texts.TooLong e = absurd (cc e)
 read_fault texts.ReadFault e = refl
 
-pub place_reached : (why : TextFault) {end : ℕ} → fault_place why ≤ end → refused_place (ply_fault why) ≤ end
-place_reached (texts.LineTooLong place) le = le
-place_reached (texts.TokenTooLong place) le = le
-place_reached texts.TooLong le = le
-place_reached texts.ReadFault le = le
+pub place_reached : (why : TextFault) {end : ℕ} → fault_end why ≤ end → refused_place (ply_fault why) ≤ end
+place_reached (texts.LineTooLong place) le = omega (arith, le)
+place_reached (texts.TokenTooLong place) le = omega (arith, le)
+place_reached texts.TooLong le = omega (arith, le)
+place_reached texts.ReadFault le = omega arith
 
 -- a token was there
 pub taken_token : {A : Type 0} (read : Piece → Result A PlyFault) (a b : Reading) (token : Piece) (result : Result A PlyFault)

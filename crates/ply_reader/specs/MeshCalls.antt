@@ -1,5 +1,5 @@
 -- A reader of a mesh between calls, and what its calls do.
-use Rattle.std.specs.Prelude.{◌≡◌, ◌≢◌, ℕ, suc, ◌+◌, ◌-◌, ◌^◌, ◌<◌, ◌≤◌, Bool, true, false, List, [], ◌∷◌, Option, None, Some, IfSome, MatchOption, Result, Ok, Err, IfOk, IfErr, MatchResult, ⊤}
+use Rattle.std.specs.Prelude.{◌≡◌, ◌≢◌, ℕ, suc, ◌+◌, ◌*◌, ◌-◌, ◌^◌, ◌<◌, ◌≤◌, Bool, true, false, List, [], ◌∷◌, Option, None, Some, IfSome, MatchOption, Result, Ok, Err, IfOk, IfErr, MatchResult, ⊤}
 use Rattle.std.specs.Result.{result_err}
 use Rattle.std.specs.List.{All}
 use Rattle.svo_base.specs.declared.shapes.Point.{Point}
@@ -139,10 +139,18 @@ pub record IsWithinMesh (d : Declared) (triangle : FaceTriangle) : Type 0 where
   pub face : triangle.face < face_count d
   pub corners : All (λ corner. corner < vertex_count d) triangle.corners
 
+-- how many corners may still be read one by one: a face has 253 behind its first two at most
+abbrev pub corners_in : Option Fan → ℕ
+corners_in None = 0
+corners_in (Some fan) = fan.left
+
+abbrev pub most_corners : BodyReading → ℕ
+most_corners r = r.faces * 253 + corners_in r.fan
+
 -- a triangle was given, or none was left
 abbrev pub CountsFace : BodyReading → BodyReading → Option FaceTriangle → Type 0
 CountsFace old new None = HasNoFace new
-CountsFace old new (Some triangle) = IsWithinMesh old.header triangle × (new.vertices ≡ old.vertices)
+CountsFace old new (Some triangle) = IsWithinMesh old.header triangle × (new.vertices ≡ old.vertices) × (most_corners new < most_corners old)
 
 -- the text was read to its end, and its length is given
 pub record AtEnd (old new : Reading) (size : ℕ) : Type 0 where

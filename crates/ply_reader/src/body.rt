@@ -46,7 +46,7 @@ impl Body {
     ghost use Rattle.ply_text.specs.Reading.{Reading, reading};
     ghost use Rattle.ply_text.specs.Calls.{SameLent};
     ghost use Rattle.ply_reader.specs.Layout.{vertex_count, face_count};
-    ghost use Rattle.ply_reader.specs.MeshCalls.{body_reading, start_of, MeshRun, HasNoFace, HasNoCorner, CountsVertex, CountsFace, IsWithinMesh, give_nothing, give_vertex, give_face, give_end, AtEnd};
+    ghost use Rattle.ply_reader.specs.MeshCalls.{body_reading, start_of, MeshRun, HasNoFace, HasNoCorner, CountsVertex, CountsFace, IsWithinMesh, give_nothing, give_vertex, give_face, give_end, AtEnd, most_corners};
 
     /// The body behind this header, at its first vertex.
     pub(crate) fn new(header: Header, scale: Scale) -> Body
@@ -129,6 +129,7 @@ impl Body {
         ensures run { MeshRun give_nothing (body_reading (reading tokens.old) self.old) (body_reading (reading tokens.new) self.new) result }
         ensures passed { IfOk result (λ _. (self.new.waits ≡ false) × (self.new.vertices ≡ 0) × (self.new.faces ≡ self.old.faces)) }
         ensures open { IfOk result (λ _. IfSome self.new.fan (λ fan. 0 < fan.left)) }
+        ensures corners { IfOk result (λ _. most_corners (body_reading (reading tokens.new) self.new) ≤ most_corners (body_reading (reading tokens.old) self.old)) }
         ensures closed { IfOk result (λ _. HasNoCorner self.old.fan → self.new.fan ≡ None) }
     {
         let Some(fan) = self.fan else {
@@ -155,6 +156,7 @@ impl Body {
         ensures same { SameLent tokens.old tokens.new }
         ensures run { MeshRun give_nothing (body_reading (reading tokens.old) self.old) (body_reading (reading tokens.new) self.new) result }
         ensures passed { IfOk result (λ _. (self.new.waits ≡ false) × (self.new.vertices ≡ 0)) }
+        ensures corners { IfOk result (λ _. most_corners (body_reading (reading tokens.new) self.new) ≤ most_corners (body_reading (reading tokens.old) self.old)) }
         ensures begun { IfOk result (λ found. MatchOption found ((self.new.faces ≡ 0) × (self.new.fan ≡ None)) (λ fan. (self.new.fan ≡ Some fan) × (0 < fan.left))) }
     {
         if let Some(fan) = self.fan {
@@ -185,6 +187,7 @@ impl Body {
         ensures same { SameLent tokens.old tokens.new }
         ensures run { MeshRun give_face (body_reading (reading tokens.old) self.old) (body_reading (reading tokens.new) self.new) result }
         ensures within { IfOk result (λ found. IfSome found (IsWithinMesh (declared self.old.header))) }
+        ensures corners { IfOk result (λ _. most_corners (body_reading (reading tokens.new) self.new) < most_corners (body_reading (reading tokens.old) self.old)) }
         ensures some { IfOk result IsSome }
         ensures vertices { self.new.vertices ≡ 0 }
     {

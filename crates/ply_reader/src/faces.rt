@@ -30,7 +30,7 @@ pub(crate) fn open_fan<I: ByteSource>(
     requires few { vertices < 2 ^ 32 }
     ensures same { SameLent tokens.old tokens.new }
     ensures runs { Runs (fan_opened vertices front.now) (reading tokens.old) (reading tokens.new) result }
-    ensures bounds { IfOk result (λ fan. (fan.first < vertices) × (fan.last < vertices) × (0 < fan.left)) }
+    ensures bounds { IfOk result (λ fan. (fan.first < vertices) × (fan.last < vertices) × (0 < fan.left) × (fan.left ≤ 253)) }
 {
     pass_row(tokens, front)?;
     let count = take_whole(tokens, PlyKind::BadCount, LEAST_CORNERS, CORNERS_BOUND)?;

@@ -27,3 +27,6 @@ pub use fault::{PlyFault, PlyKind};
 pub use header::Header;
 pub use mesh::MeshReader;
 pub use properties::{Part, Property, Scalar};
+
+#[cfg(test)]
+mod tests;
