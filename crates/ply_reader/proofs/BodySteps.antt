@@ -1,5 +1,5 @@
 -- What is left of the steps over vertices and faces.
-use Rattle.std.proofs.Common.{◌≡◌, ℕ, ◌^◌, if◌then◌else◌, true, false, List, [], ◌∷◌, refl, sym, ap, ◌∙◌}
+use Rattle.std.proofs.Common.{◌≡◌, ℕ, if◌then◌else◌, true, false, List, [], ◌∷◌, refl, ap}
 use Rattle.std.specs.Prelude.{⊤}
 use Rattle.svo_base.specs.declared.shapes.Point.{Point}
 use Rattle.ply_reader.specs.declared.properties.Property.{Property}

@@ -1,5 +1,5 @@
 -- The call for the end of a text.
-use Rattle.std.proofs.Common.{◌≡◌, ◌≢◌, ℕ, ◌+◌, ◌-◌, ◌≤◌, List, [], length, drop, refl, sym, ap, ◌∙◌, subst, arith, Option, None, Some, Result, Ok, Err, IfOk, length-drop}
+use Rattle.std.proofs.Common.{◌≡◌, ℕ, ◌+◌, ◌≤◌, List, [], length, drop, sym, ap, ◌∙◌, subst, arith, Option, None, Some, Result, Ok, Err, IfOk, length-drop}
 use Rattle.ply_text.specs.NextPieces.{next_place_of, white_size}
 use Rattle.ply_text.specs.Reading.{Reading}
 use Rattle.ply_text.specs.Calls.{PlaceCall}
@@ -9,9 +9,9 @@ use Rattle.ply_text.proofs.Callers.{stands_after}
 use Rattle.ply_reader.specs.declared.fault.PlyFault.{PlyFault}
 use Rattle.ply_reader.specs.declared.fault.PlyFault.TheVariants.{Refused, ReadFault}
 use Rattle.ply_reader.specs.declared.fault.PlyKind.TheVariants.{TrailingData}
-use Rattle.ply_reader.specs.Cursors.{Cursor, Step, at, ply_fault}
+use Rattle.ply_reader.specs.Cursors.{Step, at, ply_fault}
 use Rattle.ply_reader.specs.PlyMeaning.{end_by, text_ended}
-use Rattle.ply_reader.specs.Runs.{Gives, Runs, refused_place}
+use Rattle.ply_reader.specs.Runs.{Runs, refused_place}
 use Rattle.ply_reader.specs.MeshCalls.{AtEnd}
 use Rattle.ply_reader.proofs.TokenRuns.{read_fault, place_reached}
 

@@ -1,8 +1,6 @@
 -- How many vertices and faces there are.
-use Rattle.std.proofs.Common.{◌≡◌, ◌≢◌, ℕ, ◌^◌, ◌<◌, ◌≤◌, Bool, true, false, ◌==◌, not, List, length, get_or, refl, sym, ap, ◌∙◌, subst, arith, ⊎_elim}
-use Rattle.std.specs.List.{prefix_len}
+use Rattle.std.proofs.Common.{◌≡◌, ◌≢◌, ◌^◌, ◌<◌, false, not, length, refl, sym, ap, ◌∙◌, subst, arith, ⊎_elim}
 use Rattle.std.proofs.lemmas.Bool.{cases_lt}
-use Rattle.std.proofs.lemmas.Bool.Decides.{nat_tests}
 use Rattle.std.proofs.lemmas.List.{get_or_past}
 use Rattle.std.proofs.lemmas.List.Elements.{All-get_or}
 use Rattle.std.proofs.lemmas.List.Sums.{prefix_len_stops}
@@ -10,7 +8,7 @@ use Rattle.ply_reader.specs.declared.elements.Element.{Element}
 use Rattle.ply_reader.specs.declared.elements.Role.{Role}
 use Rattle.ply_reader.specs.declared.elements.Role.TheVariants.{Vertex, Face, Other}
 use Rattle.ply_reader.specs.Ranges.{IsFew, AreFew}
-use Rattle.ply_reader.specs.Declarations.{Declared, role_number, is_role}
+use Rattle.ply_reader.specs.Declarations.{Declared, is_role}
 use Rattle.ply_reader.specs.Layout.{first_of, no_element, element_in}
 
 -- an element that is in the role asked for is not another one

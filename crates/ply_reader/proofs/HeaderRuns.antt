@@ -1,5 +1,5 @@
 -- Calls that take the lines of a header.
-use Rattle.std.proofs.Common.{◌≡◌, ◌≢◌, ℕ, suc, ◌+◌, ◌-◌, ◌<◌, ◌≤◌, ◌++◌, Bool, true, false, if◌then◌else◌, List, [], length, drop, replicate, refl, sym, ap, ◌∙◌, subst, arith, Option, None, Some, Result, Ok, Err, OnOk, IfOk, IfErr, le_trans, le_refl, length-append, length-drop}
+use Rattle.std.proofs.Common.{◌≡◌, ◌≢◌, ℕ, suc, ◌+◌, ◌-◌, ◌<◌, ◌≤◌, ◌++◌, Bool, true, false, if◌then◌else◌, List, length, drop, replicate, refl, sym, ap, ◌∙◌, subst, arith, Option, None, Some, Result, Ok, Err, OnOk, IfOk, IfErr, le_trans, le_refl, length-append, length-drop}
 use Rattle.std.proofs.lemmas.List.{drop_at, length-replicate}
 use Rattle.ply_text.specs.Pieces.{Piece}
 use Rattle.ply_text.specs.NextPieces.{next_line_of, line_size}

@@ -1,13 +1,11 @@
 -- Calls that take items off what is left of a mesh.
-use Rattle.std.proofs.Common.{◌≡◌, ◌≢◌, ℕ, zero, suc, ◌+◌, ◌-◌, ◌≤◌, Bool, true, false, List, [], ◌∷◌, refl, sym, ap, ◌∙◌, subst, arith, Option, None, Some, Result, Ok, Err, IfOk, IfErr, MatchResult, le_trans, le_refl}
+use Rattle.std.proofs.Common.{◌≡◌, ℕ, suc, ◌-◌, true, false, List, [], ◌∷◌, refl, sym, ap, ◌∙◌, subst, None, Some, Result, Ok, Err, MatchResult, le_trans, le_refl}
 use Rattle.std.specs.Prelude.{⊤}
 use Rattle.std.specs.Result.{IsErr, IsErrAnd}
-use Rattle.svo_base.specs.declared.shapes.Point.{Point}
-use Rattle.ply_text.specs.Reading.{Reading, StandsIn}
+use Rattle.ply_text.specs.Reading.{Reading}
 use Rattle.ply_reader.specs.declared.fault.PlyFault.{PlyFault}
 use Rattle.ply_reader.specs.declared.fault.PlyFault.TheVariants.{ReadFault}
 use Rattle.ply_reader.specs.declared.fans.Fan.{Fan}
-use Rattle.ply_reader.specs.declared.fans.FaceTriangle.{FaceTriangle}
 use Rattle.ply_reader.specs.declared.scales.Scale.{Scale}
 use Rattle.ply_reader.specs.Declarations.{Declared}
 use Rattle.ply_reader.specs.Layout.{before_vertices, before_faces, behind_faces, behind_list, before_list, vertex_properties, vertex_count, face_count}
@@ -15,8 +13,8 @@ use Rattle.ply_reader.specs.Cursors.{Cursor, Step, at, onward, done}
 use Rattle.ply_reader.specs.Rows.{row_passed, elements_passed, vertex_row, origin, corner, fan_opened}
 use Rattle.ply_reader.specs.PlyMeaning.{Outcome, stopped_by, give_point, give_triangle, reach, behind_rest, fan_rest, faces_rest, vertices_rest, face_element_rest, text_end, text_ended, ended_at, body_rest, vertices_reached}
 use Rattle.ply_reader.specs.HeaderSteps.{whole_header}
-use Rattle.ply_reader.specs.Runs.{Gives, Runs, refused_place}
-use Rattle.ply_reader.specs.MeshCalls.{BodyReading, begun_rest, waiting_rest, rest_of, SameHeader, MeshRun, give_nothing, give_vertex, give_face, give_end, start_of, Begins}
+use Rattle.ply_reader.specs.Runs.{Gives, Runs}
+use Rattle.ply_reader.specs.MeshCalls.{BodyReading, begun_rest, waiting_rest, rest_of, SameHeader, MeshRun, give_nothing, give_end, start_of, Begins}
 use Rattle.ply_reader.proofs.Steps.{rose_later, err_is, runs_given}
 
 -- a call that changes nothing

@@ -1,14 +1,13 @@
 -- What is left of the steps over rows.
-use Rattle.std.proofs.Common.{◌≡◌, ℕ, zero, suc, ◌^◌, ◌+◌, ◌<◌, ◌≤◌, List, [], ◌∷◌, length, drop, get_or, refl, sym, ap, ◌∙◌, subst, arith, None}
+use Rattle.std.proofs.Common.{◌≡◌, ℕ, zero, suc, ◌^◌, List, [], ◌∷◌, refl, ap, None}
 use Rattle.ply_reader.specs.declared.elements.Element.{Element}
 use Rattle.ply_reader.specs.declared.properties.Property.{Property}
-use Rattle.ply_reader.specs.declared.fault.PlyFault.{PlyFault}
 use Rattle.ply_reader.specs.declared.fault.PlyKind.TheVariants.{BadCount}
 use Rattle.ply_reader.specs.declared.properties.Scalar.TheVariants.{Int8}
 use Rattle.ply_reader.specs.declared.properties.Part.TheVariants.{X}
 use Rattle.ply_reader.specs.declared.elements.Role.TheVariants.{Vertex}
 use Rattle.ply_reader.specs.Declarations.{Declared, properties_of}
-use Rattle.ply_reader.specs.Cursors.{Cursor, Step, onward, done, taken}
+use Rattle.ply_reader.specs.Cursors.{Cursor, onward, done, taken}
 use Rattle.ply_reader.specs.TokenValues.{unread, whole_in}
 use Rattle.ply_reader.specs.Rows.{passed, list_passed, property_passed, row_passed, rows_passed, elements_passed}
 

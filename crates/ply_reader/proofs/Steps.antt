@@ -1,12 +1,12 @@
 -- Calls that take one step after the other.
-use Rattle.std.proofs.Common.{◌≡◌, ◌≢◌, ℕ, ◌+◌, ◌≤◌, List, refl, sym, ap, ◌∙◌, subst, arith, Option, None, Some, Result, Ok, Err, IfOk, IfErr, le_refl, le_trans, ⊎_elim, inl, inr}
+use Rattle.std.proofs.Common.{◌≡◌, ◌≢◌, ℕ, ◌≤◌, refl, sym, ap, ◌∙◌, subst, arith, None, Result, Ok, Err, le_refl, le_trans, ⊎_elim, inl, inr}
 use Rattle.std.specs.Result.{IsErr, IsErrAnd}
 use Rattle.dev_traits.specs.Faults.{Rose}
-use Rattle.ply_text.specs.Reading.{Reading, StandsIn}
+use Rattle.ply_text.specs.Reading.{Reading}
 use Rattle.ply_reader.specs.declared.fault.PlyFault.{PlyFault}
 use Rattle.ply_reader.specs.declared.fault.PlyFault.TheVariants.{ReadFault}
 use Rattle.ply_reader.specs.Cursors.{Cursor, Step, at, onward, done}
-use Rattle.ply_reader.specs.Runs.{Gives, Runs, Comes, refused_place}
+use Rattle.ply_reader.specs.Runs.{Gives, Runs, Comes}
 
 -- a count that rose later rose
 pub rose_later : (a b c : ℕ) → a ≤ b → Rose b c → Rose a c

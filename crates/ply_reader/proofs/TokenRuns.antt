@@ -13,7 +13,7 @@ use Rattle.ply_reader.specs.declared.fault.PlyFault.{PlyFault}
 use Rattle.ply_reader.specs.declared.fault.PlyFault.TheVariants.{Refused, ReadFault}
 use Rattle.ply_reader.specs.declared.fault.PlyKind.{PlyKind}
 use Rattle.ply_reader.specs.declared.fault.PlyKind.TheVariants.{Truncated}
-use Rattle.ply_reader.specs.Cursors.{Cursor, Step, at, taken, token_read, with_cursor, ply_fault}
+use Rattle.ply_reader.specs.Cursors.{Cursor, at, taken, token_read, with_cursor, ply_fault}
 use Rattle.ply_reader.specs.TokenValues.{within_bounds, placed, number_kind}
 use Rattle.ply_reader.specs.Runs.{Gives, Runs, refused_place}
 

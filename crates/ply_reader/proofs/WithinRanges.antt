@@ -1,6 +1,5 @@
 -- Elements whose properties are among those that were declared.
-use Rattle.std.proofs.Common.{◌≡◌, ℕ, ◌+◌, ◌≤◌, List, [], ◌∷◌, ◌++◌, length, arith, IfSome, Option, option_to_list, Some, refl}
-use Rattle.std.specs.List.{All}
+use Rattle.std.proofs.Common.{ℕ, ◌+◌, ◌≤◌, List, [], ◌∷◌, ◌++◌, arith, Some, refl}
 use Rattle.std.proofs.lemmas.List.Elements.{All-weaker, All-push, All-pop}
 use Rattle.ply_reader.specs.declared.elements.Element.{Element}
 use Rattle.ply_reader.specs.Ranges.{AreWithin, IsFew, AreFew}

@@ -1,5 +1,5 @@
 -- How large what is read can be.
-use Rattle.std.specs.Prelude.{ℕ, ◌^◌, ◌≤◌, unsigned_abs}
+use Rattle.std.specs.Prelude.{◌^◌, ◌≤◌, unsigned_abs}
 use Rattle.svo_base.specs.declared.shapes.Point.{Point}
 
 -- each coordinate has a size of at most 2^30

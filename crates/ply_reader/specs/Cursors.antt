@@ -1,5 +1,5 @@
 -- Steps through a text.
-use Rattle.std.specs.Prelude.{ℕ, ◌+◌, ◌^◌, List, length, drop, Option, None, Some, Result, Ok, Err, ⊤}
+use Rattle.std.specs.Prelude.{ℕ, ◌+◌, ◌^◌, List, length, drop, Option, None, Some, Result, Ok, Err}
 use Rattle.ply_text.specs.declared.fault.TextFault.{TextFault}
 use Rattle.ply_text.specs.declared.fault.TextFault.TheVariants as texts
 use Rattle.ply_text.specs.Pieces.{Piece}

@@ -1,5 +1,5 @@
 -- What the header lines that were taken declare.
-use Rattle.std.specs.Prelude.{ℕ, ◌+◌, ◌-◌, Bool, false, ◌||◌, ◌==◌, if◌then◌else◌, List, [], ◌∷◌, ◌++◌, length, take, drop, slice_get, Option, None, Some}
+use Rattle.std.specs.Prelude.{ℕ, ◌+◌, ◌-◌, Bool, false, ◌||◌, ◌==◌, List, [], ◌∷◌, ◌++◌, length, take, drop, slice_get, Option, None, Some}
 use Rattle.std.specs.List.{list_any}
 use Rattle.ply_reader.specs.declared.elements.Element.{Element}
 use Rattle.ply_reader.specs.declared.elements.Role.{Role}

@@ -9,7 +9,6 @@ use Rattle.ply_reader.specs.declared.elements.Role.{Role}
 use Rattle.ply_reader.specs.declared.elements.Role.TheVariants.{Vertex, Face}
 use Rattle.ply_reader.specs.declared.properties.Property.{Property}
 use Rattle.ply_reader.specs.declared.properties.Scalar.{Scalar}
-use Rattle.ply_reader.specs.declared.properties.Part.{Part}
 use Rattle.ply_reader.specs.declared.properties.Part.TheVariants.{X, Y, Z, Indices}
 use Rattle.ply_reader.specs.declared.names.Keyword.{Keyword}
 use Rattle.ply_reader.specs.declared.names.Keyword.TheVariants.{Blank, Comment, Format, NewElement, NewProperty, EndHeader, Unknown}

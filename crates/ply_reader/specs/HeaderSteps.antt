@@ -1,20 +1,16 @@
 -- The header of a text: its lines, one after the other, until one ends it.
-use Rattle.std.specs.Prelude.{◌≡◌, ◌≢◌, ℕ, zero, suc, ◌+◌, ◌≤◌, ◌<◌, Bool, true, false, if◌then◌else◌, List, length, drop, Option, None, Some, Result, Ok, Err, IfOk, IfErr, MatchResult}
-use Rattle.dev_traits.specs.Faults.{Rose}
+use Rattle.std.specs.Prelude.{ℕ, zero, suc, ◌+◌, Bool, if◌then◌else◌, List, length, drop, Option, None, Some, Result, Ok, Err}
 use Rattle.ply_text.specs.declared.fault.TextFault.{TextFault}
 use Rattle.ply_text.specs.Pieces.{Piece}
 use Rattle.ply_text.specs.NextPieces.{next_line_of, line_size}
-use Rattle.ply_text.specs.Reading.{Reading, StandsIn}
 use Rattle.ply_reader.specs.declared.fault.PlyFault.{PlyFault}
-use Rattle.ply_reader.specs.declared.fault.PlyFault.TheVariants.{Refused, ReadFault}
+use Rattle.ply_reader.specs.declared.fault.PlyFault.TheVariants.{Refused}
 use Rattle.ply_reader.specs.declared.fault.PlyKind.{PlyKind}
 use Rattle.ply_reader.specs.declared.fault.PlyKind.TheVariants.{NotPly, Truncated}
-use Rattle.ply_reader.specs.declared.header.Header.{Header}
 use Rattle.ply_reader.specs.LineWords.{line_words}
-use Rattle.ply_reader.specs.Declarations.{Declared, declared, nothing_declared}
-use Rattle.ply_reader.specs.HeaderRules.{rules_of, first_broken, is_end, after, HasMesh}
+use Rattle.ply_reader.specs.Declarations.{Declared, nothing_declared}
+use Rattle.ply_reader.specs.HeaderRules.{rules_of, first_broken, is_end, after}
 use Rattle.ply_reader.specs.Cursors.{Cursor, Step, at, onward, done, ply_fault}
-use Rattle.ply_reader.specs.Runs.{Gives, refused_place}
 
 -- what a line declares, and whether it ends the header
 pub record Taken : Type 0 where

@@ -1,5 +1,5 @@
 -- Where the vertices and the faces stand in a body.
-use Rattle.std.specs.Prelude.{ℕ, ◌+◌, ◌-◌, not, List, take, drop, slice_index_or, Option, None}
+use Rattle.std.specs.Prelude.{ℕ, ◌+◌, ◌-◌, not, List, take, drop, slice_index_or}
 use Rattle.std.specs.List.{prefix_len}
 use Rattle.ply_reader.specs.declared.elements.Element.{Element}
 use Rattle.ply_reader.specs.declared.elements.Role.{Role}

@@ -1,5 +1,5 @@
 -- A reader of a mesh between calls, and what its calls do.
-use Rattle.std.specs.Prelude.{◌≡◌, ◌≢◌, ℕ, suc, ◌+◌, ◌*◌, ◌-◌, ◌^◌, ◌<◌, ◌≤◌, Bool, true, false, List, [], ◌∷◌, Option, None, Some, IfSome, MatchOption, Result, Ok, Err, IfOk, IfErr, MatchResult, ⊤}
+use Rattle.std.specs.Prelude.{◌≡◌, ◌≢◌, ℕ, suc, ◌+◌, ◌*◌, ◌-◌, ◌<◌, ◌≤◌, Bool, true, false, List, [], Option, None, Some, IfSome, MatchOption, Result, Err, IfOk, IfErr, MatchResult}
 use Rattle.std.specs.Result.{result_err}
 use Rattle.std.specs.List.{All}
 use Rattle.svo_base.specs.declared.shapes.Point.{Point}

@@ -1,13 +1,11 @@
 -- What a mesh text means: a mesh, or its first refusal.
-use Rattle.std.specs.Prelude.{ℕ, zero, suc, ◌+◌, ◌-◌, Bool, true, false, List, [], ◌∷◌, length, Option, None, Some, Result, Ok, Err}
+use Rattle.std.specs.Prelude.{ℕ, zero, suc, ◌+◌, ◌-◌, List, [], ◌∷◌, length, Option, None, Some, Result, Ok, Err}
 use Rattle.svo_base.specs.declared.shapes.Point.{Point}
 use Rattle.ply_text.specs.declared.fault.TextFault.{TextFault}
 use Rattle.ply_text.specs.NextPieces.{next_place_of}
 use Rattle.ply_reader.specs.declared.fault.PlyFault.{PlyFault}
 use Rattle.ply_reader.specs.declared.fault.PlyFault.TheVariants.{Refused}
 use Rattle.ply_reader.specs.declared.fault.PlyKind.TheVariants.{TrailingData}
-use Rattle.ply_reader.specs.declared.elements.Element.{Element}
-use Rattle.ply_reader.specs.declared.fans.Fan.{Fan}
 use Rattle.ply_reader.specs.declared.fans.FaceTriangle.{FaceTriangle}
 use Rattle.ply_reader.specs.declared.scales.Scale.{Scale}
 use Rattle.ply_reader.specs.Declarations.{Declared}

@@ -1,5 +1,5 @@
 -- The rows of elements: their properties in order, a scalar as one token, a list as its count and as many tokens.
-use Rattle.std.specs.Prelude.{ℕ, zero, suc, ◌-◌, ◌^◌, if◌then◌else◌, List, [], ◌∷◌, Option, None, Some, Result, Ok, ℤ, pos, ⊤}
+use Rattle.std.specs.Prelude.{ℕ, zero, suc, ◌-◌, ◌^◌, if◌then◌else◌, List, [], ◌∷◌, Option, None, Some, ℤ, pos, ⊤}
 use Rattle.svo_base.specs.declared.shapes.Point.{Point}
 use Rattle.ply_reader.specs.declared.fault.PlyKind.TheVariants.{BadCount, BadIndex}
 use Rattle.ply_reader.specs.declared.elements.Element.{Element}
@@ -10,7 +10,7 @@ use Rattle.ply_reader.specs.declared.properties.Part.TheVariants.{X, Y, Z, Indic
 use Rattle.ply_reader.specs.declared.scales.Scale.{Scale}
 use Rattle.ply_reader.specs.declared.fans.Fan.{Fan}
 use Rattle.ply_reader.specs.Declarations.{Declared, properties_of, is_coordinate}
-use Rattle.ply_reader.specs.Cursors.{Cursor, Step, onward, done, taken}
+use Rattle.ply_reader.specs.Cursors.{Step, onward, done, taken}
 use Rattle.ply_reader.specs.TokenValues.{unread, whole_in, coordinate}
 
 -- so many tokens are passed

@@ -1,5 +1,5 @@
 -- What a call does to a reader of text, in terms of a step.
-use Rattle.std.specs.Prelude.{◌≡◌, ◌≢◌, ℕ, ◌+◌, ◌≤◌, List, Option, None, Some, Result, Ok, Err, IfOk, IfErr, MatchResult}
+use Rattle.std.specs.Prelude.{◌≡◌, ◌≢◌, ℕ, ◌+◌, ◌≤◌, List, None, Some, Result, Ok, Err, IfOk, IfErr, MatchResult}
 use Rattle.dev_traits.specs.Faults.{Rose}
 use Rattle.ply_text.specs.Reading.{Reading, StandsIn}
 use Rattle.ply_reader.specs.declared.fault.PlyFault.{PlyFault}

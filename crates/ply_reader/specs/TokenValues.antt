@@ -1,5 +1,5 @@
 -- What single tokens say.
-use Rattle.std.specs.Prelude.{ℕ, ◌-◌, ◌^◌, Bool, ◌&&◌, nat_le, nat_lt, if◌then◌else◌, ℤ, Option, None, Some, Result, Ok, Err, ⊤}
+use Rattle.std.specs.Prelude.{ℕ, ◌-◌, ◌^◌, ◌&&◌, nat_le, nat_lt, if◌then◌else◌, ℤ, Option, None, Some, Result, Ok, Err, ⊤}
 use Rattle.ply_text.specs.Pieces.{Piece}
 use Rattle.ply_text.specs.Wholes.{whole_of}
 use Rattle.ply_text.specs.Fixed.{fixed_of}

@@ -1,22 +1,50 @@
 //! Meshes as tools write them. Expected points, triangles, kinds and places were worked out by hand.
 
 use crate::PlyKind::{self, *};
-use crate::{FaceTriangle, Header, MeshReader, PlyFault};
-use dev_traits::MemSource;
+use crate::{Header, MeshReader, PlyFault};
+use dev_traits::{ByteSource, MemSource};
 use ply_text::Tokens;
-use std::alloc::Global;
-use svo_base::Point;
+
+/// A text, the decimals, whether to cut, how many vertices come before the refusal or the end, and
+/// that refusal.
+type Case = (&'static [u8], u32, bool, u64, Option<(PlyKind, u64)>);
 
 const TRIANGLE: &[u8] =
     b"ply\nformat ascii 1.0\nelement vertex 3\nproperty int x\nproperty int y\nproperty int z\nelement face 1\nproperty list uchar int vertex_indices\nend_header\n0 0 0\n1 0 0\n0 1 0\n3 0 1 2\n";
 
-/// As usual tools write: CR LF, comments, normals, colours, a quad, exponents.
-const SQUARE: &[u8] =
-    b"ply\r\nformat ascii 1.0\r\ncomment written as usual tools write\r\nobj_info one square\r\nelement vertex 4\r\nproperty float x\r\nproperty float y\r\nproperty float z\r\nproperty float nx\r\nproperty float ny\r\nproperty float nz\r\nproperty uchar red\r\nproperty uchar green\r\nproperty uchar blue\r\nelement face 1\r\nproperty list uchar int vertex_indices\r\nend_header\r\n0.000000 0.000000 0.000000 0.000000 0.000000 1.000000 255 255 255\r\n1e2 0.000000 0.000000 0.000000 0.000000 1.000000 255 255 255\r\n100.000000 1E+2 -0.0 0.000000 0.000000 1.000000 255 0 0\r\n0 100 0 0.000000 0.000000 1.000000 255 0 0\r\n4 0 1 2 3\r\n";
+const CASES: &[Case] = &[
+    (TRIANGLE, 0, false, 3, None),
+    (b"", 0, false, 0, Some((NotPly, 0))),
+    (b"ply", 0, false, 0, Some((Truncated, 3))),
+    (b"ply\nf", 0, false, 0, Some((BadHeader, 4))),
+    (b"ply\nformat", 0, false, 0, Some((BadFormat, 4))),
+    (
+        b"ply\nformat ascii 1.0\n",
+        0,
+        false,
+        0,
+        Some((Truncated, 21)),
+    ),
+    (
+        b"ply\nformat ascii 1.0\nelement none 9223372036854775807\nelement vertex 2\nproperty float x\nproperty float y\nproperty uchar a\nproperty float z\nelement face 0\nproperty list uchar int vertex_index\nend_header\r\n0 0 255 0.00447467\n.5 1e0 0 .25",
+        7,
+        true,
+        2,
+        None,
+    ),
+    (
+        b"ply\nformat ascii 1.0\nelement vertex 1\nproperty float x\nproperty float y\nproperty float z\nelement face 0\nproperty list uchar int vertex_index\nend_header\n0 0 0.00447467\n",
+        7,
+        false,
+        0,
+        Some((NotWhole, 156)),
+    ),
+];
 
+/// How many bytes a read gives at most.
 const PIECES: &[usize] = &[1, 7, 4096];
 
-/// A header line by line, and what each line is answered.
+/// A header line by line, and what the last line is answered.
 type Lines = (&'static [&'static [u8]], Result<bool, PlyKind>);
 
 const PLY: &[u8] = b"ply";
@@ -147,5 +175,34 @@ fn lines_are_taken_by_the_first_rule(rt: HostRuntime) {
             last = header.take(line);
         }
         assert_eq!(rt; last, *wanted, "the last line");
+    }
+}
+
+/// How many vertices a text gives, and the refusal behind them.
+fn count_vertices<I: ByteSource>(reader: &mut MeshReader<'_, I>) -> (u64, Option<PlyFault>) {
+    for count in 0..reader.vertex_count() {
+        match reader.next_vertex() {
+            Ok(Some(_)) => {}
+            Ok(None) => return (count, None),
+            Err(fault) => return (count, Some(fault)),
+        }
+    }
+    (reader.vertex_count(), reader.next_vertex().err())
+}
+
+#[test]
+fn vertices_are_given_up_to_the_first_refusal(rt: HostRuntime) {
+    for (text, decimals, cut, wanted, refusal) in CASES {
+        for piece in PIECES {
+            assert!(rt; *decimals <= 9 && *piece >= 1, "a case");
+            let mut block = [0; 2048];
+            let mut source = MemSource::new(rt.alloc(), text, *piece, &[]).expect(&rt, "memory");
+            let tokens = Tokens::new(&mut source, &mut block);
+            let mut reader = MeshReader::begin(tokens, *decimals, *cut);
+            let (count, fault) = count_vertices(&mut reader);
+            assert_eq!(rt; count, *wanted, "vertices");
+            let wanted = refusal.map(|(kind, place)| PlyFault::Refused { kind, place });
+            assert_eq!(rt; fault, wanted, "the refusal");
+        }
     }
 }

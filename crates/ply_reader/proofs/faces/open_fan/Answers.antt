@@ -1,14 +1,11 @@
-use Rattle.std.proofs.Common.{◌≡◌, ◌^◌, Ok}
-use Rattle.std.specs.Prelude.{⊤}
+use Rattle.std.proofs.Common.{Ok}
 use Rattle.ply_reader.specs.declared.fault.PlyKind.TheVariants.{BadCount}
 use Rattle.ply_text.specs.Reading.{reading}
-use Rattle.ply_reader.specs.Cursors.{Step, onward, done, taken}
-use Rattle.ply_reader.specs.TokenValues.{whole_in, coordinate}
-use Rattle.ply_reader.specs.Declarations.{is_coordinate}
-use Rattle.ply_reader.specs.Rows.{property_passed, row_passed, with_part, coordinate_taken, vertex_row, origin, corner, fan_of, fan_opened}
-use Rattle.ply_reader.specs.Runs.{Runs, Comes}
+use Rattle.ply_reader.specs.Cursors.{onward, done, taken}
+use Rattle.ply_reader.specs.TokenValues.{whole_in}
+use Rattle.ply_reader.specs.Rows.{row_passed, corner, fan_of, fan_opened}
 use Rattle.ply_reader.proofs.BodySteps.{after_first, after_count, after_front, fan_steps}
-use Rattle.ply_reader.proofs.Steps.{comes_self, comes_as, comes_on, comes_ends, runs_done, runs_given, runs_as, runs_maps, stops_whole}
+use Rattle.ply_reader.proofs.Steps.{comes_self, comes_as, comes_on, comes_ends, runs_done, runs_given, stops_whole}
 use Rattle.ply_reader.proofs.faces.open_fan.Goals as goal
 
 pub returns-in_err-pass_row-clause-runs : goal.returns-in_err-pass_row-clause-runs

@@ -3,7 +3,6 @@ use Rattle.ply_text.specs.Reading.{reading}
 use Rattle.ply_reader.specs.Declarations.{declared}
 use Rattle.ply_reader.specs.Cursors.{mapped}
 use Rattle.ply_reader.specs.HeaderSteps.{whole_header, header_line, taken_from}
-use Rattle.ply_reader.specs.Runs.{Runs}
 use Rattle.ply_reader.proofs.HeaderRuns.{ComesInHeader, header_starts, header_goes_on, header_ends, header_stops}
 use Rattle.ply_reader.proofs.Steps.{err_is, runs_given}
 use Rattle.ply_reader.proofs.header_lines.read_header.Goals as goal

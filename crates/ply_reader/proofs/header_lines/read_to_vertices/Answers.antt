@@ -1,13 +1,13 @@
-use Rattle.std.proofs.Common.{◌≡◌, ◌∙◌, Ok, Err, ap, sym, subst}
+use Rattle.std.proofs.Common.{Ok, Err, ap, sym, subst}
 use Rattle.ply_text.specs.Reading.{reading}
 use Rattle.ply_reader.specs.Declarations.{declared}
 use Rattle.ply_reader.specs.Layout.{before_vertices}
-use Rattle.ply_reader.specs.Cursors.{Cursor, onward, done, mapped}
+use Rattle.ply_reader.specs.Cursors.{onward, done, mapped}
 use Rattle.ply_reader.specs.Rows.{elements_passed}
 use Rattle.ply_reader.specs.HeaderSteps.{whole_header}
 use Rattle.ply_reader.specs.PlyMeaning.{vertices_reached}
 use Rattle.ply_reader.specs.Runs.{Runs}
-use Rattle.ply_reader.proofs.Steps.{err_is, comes_self, comes_as, comes_on, runs_given, runs_then, runs_as, runs_maps, stops}
+use Rattle.ply_reader.proofs.Steps.{err_is, runs_given, runs_then, runs_as, runs_maps, stops}
 use Rattle.ply_reader.proofs.Beginnings.{behind_header, reached_steps}
 use Rattle.ply_reader.proofs.header_lines.read_to_vertices.Goals as goal
 

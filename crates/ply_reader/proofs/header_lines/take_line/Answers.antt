@@ -1,4 +1,4 @@
-use Rattle.std.proofs.Common.{sym, ap, subst}
+use Rattle.std.proofs.Common.{sym, subst}
 use Rattle.ply_text.specs.Reading.{reading}
 use Rattle.ply_text.specs.Calls.{line_piece}
 use Rattle.ply_reader.specs.Declarations.{declared}

@@ -1,12 +1,11 @@
-use Rattle.std.proofs.Common.{◌≡◌, ◌+◌, ◌∷◌, [], Ok, arith, rules, drop, get_or, length, subst}
+use Rattle.std.proofs.Common.{◌≡◌, ◌+◌, ◌∷◌, [], Ok, rules, drop, get_or, subst}
 use Rattle.ply_text.specs.Reading.{reading}
-use Rattle.ply_reader.specs.Cursors.{Step, onward, done, taken}
-use Rattle.ply_reader.specs.TokenValues.{whole_in}
+use Rattle.ply_reader.specs.Cursors.{onward, done}
 use Rattle.ply_reader.specs.Declarations.{declared, properties_of}
-use Rattle.ply_reader.specs.Rows.{passed, list_passed, property_passed, row_passed, rows_passed, elements_passed}
+use Rattle.ply_reader.specs.Rows.{rows_passed, elements_passed}
 use Rattle.ply_reader.specs.Runs.{Runs}
 use Rattle.ply_reader.proofs.RowSteps.{some_element, no_element, one_element}
-use Rattle.ply_reader.proofs.Steps.{comes_self, comes_as, comes_on, comes_ends, runs_done, runs_given, runs_as, runs_then, stops_whole}
+use Rattle.ply_reader.proofs.Steps.{comes_as, comes_on, comes_ends, runs_done, runs_given, stops_whole}
 use Rattle.std.proofs.lemmas.List.{drop_more, drop_all}
 use Rattle.ply_reader.proofs.rows.pass_elements.Goals as goal
 

@@ -1,11 +1,10 @@
-use Rattle.std.proofs.Common.{◌≡◌, ◌^◌, Ok, sym, refl}
+use Rattle.std.proofs.Common.{◌^◌, Ok}
 use Rattle.ply_text.specs.Reading.{reading}
-use Rattle.ply_reader.specs.Cursors.{Step, onward, done, taken}
+use Rattle.ply_reader.specs.Cursors.{onward, taken}
 use Rattle.ply_reader.specs.TokenValues.{whole_in}
-use Rattle.ply_reader.specs.Declarations.{declared, properties_of}
-use Rattle.ply_reader.specs.Rows.{passed, list_passed, property_passed, row_passed, rows_passed, elements_passed}
+use Rattle.ply_reader.specs.Rows.{passed, list_passed}
 use Rattle.ply_reader.proofs.RowSteps.{list_steps}
-use Rattle.ply_reader.proofs.Steps.{comes_self, comes_as, comes_on, comes_ends, runs_done, runs_given, runs_as, runs_then, stops_whole}
+use Rattle.ply_reader.proofs.Steps.{comes_self, comes_as, runs_given, runs_as, runs_then, stops_whole}
 use Rattle.ply_reader.specs.declared.fault.PlyKind.TheVariants.{BadCount}
 use Rattle.ply_reader.proofs.rows.pass_list.Goals as goal
 

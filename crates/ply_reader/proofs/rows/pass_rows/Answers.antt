@@ -1,12 +1,10 @@
-use Rattle.std.proofs.Common.{◌≡◌, ◌-◌, suc, [], Ok, arith, rules, subst, sym, length}
+use Rattle.std.proofs.Common.{◌≡◌, ◌-◌, suc, [], Ok, arith, rules, subst, sym}
 use Rattle.std.proofs.lemmas.List.{nil_from_length}
 use Rattle.ply_text.specs.Reading.{reading}
-use Rattle.ply_reader.specs.Cursors.{Cursor, Step, onward, done, taken}
-use Rattle.ply_reader.specs.TokenValues.{whole_in}
-use Rattle.ply_reader.specs.Declarations.{declared, properties_of}
-use Rattle.ply_reader.specs.Rows.{passed, list_passed, property_passed, row_passed, rows_passed, elements_passed}
+use Rattle.ply_reader.specs.Cursors.{Cursor, onward, done}
+use Rattle.ply_reader.specs.Rows.{row_passed, rows_passed}
 use Rattle.ply_reader.proofs.RowSteps.{no_rows, one_row, rows_free}
-use Rattle.ply_reader.proofs.Steps.{comes_self, comes_as, comes_on, comes_ends, runs_done, runs_given, runs_as, runs_then, stops_whole}
+use Rattle.ply_reader.proofs.Steps.{comes_as, comes_on, comes_ends, runs_done, runs_given, runs_as, stops_whole}
 use Rattle.ply_reader.proofs.rows.pass_rows.Goals as goal
 
 pub returns-then-is_empty-clause-runs : goal.returns-then-is_empty-clause-runs

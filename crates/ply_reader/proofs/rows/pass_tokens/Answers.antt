@@ -1,6 +1,6 @@
 use Rattle.std.proofs.Common.{◌-◌, Ok, arith, ◌≡◌, suc, rules}
 use Rattle.ply_text.specs.Reading.{reading}
-use Rattle.ply_reader.specs.Cursors.{Step, onward, done, taken}
+use Rattle.ply_reader.specs.Cursors.{onward, done, taken}
 use Rattle.ply_reader.specs.TokenValues.{unread}
 use Rattle.ply_reader.specs.Rows.{passed}
 use Rattle.ply_reader.proofs.RowSteps.{no_tokens, one_token}

@@ -1,8 +1,6 @@
-use Rattle.std.proofs.Common.{drop}
 use Rattle.ply_text.specs.Reading.{reading}
 use Rattle.ply_text.specs.Calls.{SameLent}
-use Rattle.ply_reader.specs.Declarations.{declared}
-use Rattle.ply_reader.specs.Rows.{passed, row_passed, rows_passed, elements_passed}
+use Rattle.ply_reader.specs.Rows.{passed}
 use Rattle.ply_reader.specs.Runs.{Comes}
 use Rattle.ply_reader.proofs.rows.pass_tokens.Given as goal
 

@@ -1,4 +1,4 @@
-use Rattle.std.proofs.Common.{◌≡◌, ◌∙◌, ◌∷◌, ◌+◌, drop, ap, sym}
+use Rattle.std.proofs.Common.{◌∙◌, drop, ap, sym}
 use Rattle.std.proofs.lemmas.List.{drop-drop}
 use Rattle.ply_reader.proofs.slices.all_behind.Goals as goal
 

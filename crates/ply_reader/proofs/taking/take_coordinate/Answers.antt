@@ -1,8 +1,8 @@
-use Rattle.std.proofs.Common.{◌∙◌, ap, refl, sym, subst}
+use Rattle.std.proofs.Common.{◌∙◌, ap, sym, subst}
 use Rattle.ply_text.specs.Reading.{reading}
 use Rattle.ply_text.specs.Calls.{token_piece}
 use Rattle.ply_reader.specs.TokenValues.{coordinate, placed}
-use Rattle.ply_reader.proofs.TokenRuns.{token_given, none_given, fault_given, IsPlaced, whole_placed, coordinate_placed, taken_token, taken_end, taken_fault}
+use Rattle.ply_reader.proofs.TokenRuns.{token_given, none_given, fault_given, IsPlaced, coordinate_placed, taken_token, taken_end, taken_fault}
 use Rattle.ply_reader.proofs.taking.take_coordinate.Goals as goal
 
 pub returns-in-Ok-Some-clause-runs : goal.returns-in-Ok-Some-clause-runs

@@ -1,4 +1,3 @@
-use Rattle.std.proofs.Common.{refl}
 use Rattle.ply_text.specs.Reading.{reading}
 use Rattle.ply_reader.proofs.EndRuns.{place_given, no_place_given, place_fault_given, taken_text_end, taken_trailing, taken_end_fault}
 use Rattle.ply_reader.proofs.taking.take_end.Goals as goal

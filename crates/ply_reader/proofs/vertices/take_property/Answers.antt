@@ -1,13 +1,12 @@
-use Rattle.std.proofs.Common.{◌≡◌, ◌∙◌, Ok, ap, sym, subst, true, false, rules}
-use Rattle.std.specs.Prelude.{⊤}
+use Rattle.std.proofs.Common.{◌≡◌, Ok, sym, subst, true, false, rules}
 use Rattle.ply_text.specs.Reading.{reading}
-use Rattle.ply_reader.specs.Cursors.{Step, onward, done, taken}
-use Rattle.ply_reader.specs.TokenValues.{whole_in, coordinate}
+use Rattle.ply_reader.specs.Cursors.{onward, done, taken}
+use Rattle.ply_reader.specs.TokenValues.{coordinate}
 use Rattle.ply_reader.specs.Declarations.{is_coordinate}
-use Rattle.ply_reader.specs.Rows.{property_passed, row_passed, with_part, coordinate_taken, vertex_row, origin, corner, fan_of, fan_opened}
-use Rattle.ply_reader.specs.Runs.{Runs, Comes}
+use Rattle.ply_reader.specs.Rows.{property_passed, with_part, coordinate_taken}
+use Rattle.ply_reader.specs.Runs.{Runs}
 use Rattle.ply_reader.proofs.BodySteps.{is_taken, is_passed}
-use Rattle.ply_reader.proofs.Steps.{comes_self, comes_as, comes_on, comes_ends, runs_done, runs_given, runs_as, runs_maps, stops_whole}
+use Rattle.ply_reader.proofs.Steps.{comes_self, comes_as, runs_given, runs_as, runs_maps, stops_whole}
 use Rattle.ply_reader.proofs.vertices.take_property.Goals as goal
 
 pub returns-in_err-pass_property-clause-runs : goal.returns-in_err-pass_property-clause-runs

@@ -1,15 +1,11 @@
-use Rattle.std.proofs.Common.{◌≡◌, ◌+◌, ◌∷◌, [], Ok, rules, drop, get_or, length}
-use Rattle.std.specs.Prelude.{⊤}
+use Rattle.std.proofs.Common.{◌≡◌, ◌+◌, ◌∷◌, [], Ok, rules, drop, get_or}
 use Rattle.std.proofs.lemmas.List.{drop_more, drop_all}
 use Rattle.ply_reader.proofs.RowSteps.{some_property}
 use Rattle.ply_text.specs.Reading.{reading}
-use Rattle.ply_reader.specs.Cursors.{Step, onward, done, taken}
-use Rattle.ply_reader.specs.TokenValues.{whole_in, coordinate}
-use Rattle.ply_reader.specs.Declarations.{is_coordinate}
-use Rattle.ply_reader.specs.Rows.{property_passed, row_passed, with_part, coordinate_taken, vertex_row, origin, corner, fan_of, fan_opened}
-use Rattle.ply_reader.specs.Runs.{Runs, Comes}
+use Rattle.ply_reader.specs.Cursors.{onward, done}
+use Rattle.ply_reader.specs.Rows.{coordinate_taken, vertex_row, origin}
 use Rattle.ply_reader.proofs.BodySteps.{no_part, one_part}
-use Rattle.ply_reader.proofs.Steps.{comes_self, comes_as, comes_on, comes_ends, runs_done, runs_given, runs_as, runs_maps, stops_whole}
+use Rattle.ply_reader.proofs.Steps.{comes_as, comes_on, comes_ends, runs_done, runs_given, stops_whole}
 use Rattle.ply_reader.proofs.vertices.take_vertex.Goals as goal
 
 pub returns-in_err-point-clause-runs : goal.returns-in_err-point-clause-runs

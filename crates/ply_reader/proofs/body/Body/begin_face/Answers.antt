@@ -1,18 +1,12 @@
-use Rattle.std.proofs.Common.{◌≡◌, ◌∙◌, ◌-◌, ◌+◌, ◌<◌, Ok, Err, None, Some, suc, ap, sym, refl, subst, rules, arith, take, drop, true, false, ◌∷◌, []}
+use Rattle.std.proofs.Common.{◌≡◌, ◌∙◌, ◌-◌, Ok, None, Some, suc, ap, sym, refl, subst, rules, arith, take}
 use Rattle.ply_text.specs.Reading.{reading}
-use Rattle.ply_reader.specs.declared.fans.Fan.{Fan}
-use Rattle.ply_reader.specs.declared.fans.FaceTriangle.{FaceTriangle}
 use Rattle.ply_reader.specs.Declarations.{declared, properties_of}
-use Rattle.ply_reader.specs.Layout.{vertex_properties, face_properties, before_faces, behind_faces, before_list, behind_list, vertex_count, face_count, list_place, first_of}
-use Rattle.ply_reader.specs.declared.elements.Role.TheVariants.{Vertex, Face}
-use Rattle.ply_reader.specs.Cursors.{Cursor, onward}
-use Rattle.ply_reader.specs.Rows.{row_passed, elements_passed, vertex_row, origin, corner, fan_opened}
-use Rattle.ply_reader.specs.PlyMeaning.{give_point, give_triangle, reach, behind_rest, fan_rest, faces_rest, vertices_rest, text_end, text_ended, ended_at}
+use Rattle.ply_reader.specs.Layout.{face_properties, before_list, vertex_count, list_place}
+use Rattle.ply_reader.specs.Rows.{fan_opened}
 use Rattle.ply_reader.specs.Runs.{Runs}
-use Rattle.ply_reader.specs.MeshCalls.{body_reading, begun_rest, waiting_rest, rest_of, MeshRun, SameHeader, give_nothing, give_vertex, give_face, give_end}
-use Rattle.ply_reader.proofs.EndRuns.{ends_behind}
-use Rattle.ply_reader.proofs.Steps.{runs_given, runs_then}
-use Rattle.ply_reader.proofs.MeshRuns.{run_nothing, run_step, run_stops, run_given, run_then, run_refused, run_fails, run_fails_behind, run_ends, vertex_left, no_vertex_left, waits_left, begun_left, closing_left, face_left, corner_left, end_left, rest_is}
+use Rattle.ply_reader.specs.MeshCalls.{body_reading, begun_rest, give_nothing}
+use Rattle.ply_reader.proofs.Steps.{runs_given}
+use Rattle.ply_reader.proofs.MeshRuns.{run_step, run_fails, begun_left, face_left}
 use Rattle.ply_reader.proofs.body.Body.begin_face.Goals as goal
 
 pub returns-in_err-fan-clause-run : goal.returns-in_err-fan-clause-run

@@ -1,5 +1,4 @@
-use Rattle.std.proofs.Common.{◌≡◌, ◌+◌, ◌++◌, ◌∷◌, [], List, length, ap, sym, ◌∙◌, subst, refl, append-nil}
-use Rattle.ply_reader.specs.declared.elements.Element.{Element}
+use Rattle.std.proofs.Common.{◌+◌, ◌++◌, ◌∷◌, [], length, ap, sym, ◌∙◌, subst, append-nil}
 use Rattle.ply_reader.specs.Ranges.{AreWithin, AreFew}
 use Rattle.ply_reader.specs.Declarations.{one_more}
 use Rattle.ply_reader.proofs.WithinRanges.{within_more, within_one_more, few_one_more}

@@ -1,4 +1,4 @@
-use Rattle.std.proofs.Common.{◌≡◌, Ok, Err, ap, sym, subst}
+use Rattle.std.proofs.Common.{Ok, Err, ap, sym, subst}
 use Rattle.ply_text.specs.Reading.{reading}
 use Rattle.ply_reader.specs.declared.scales.Scale.{Scale}
 use Rattle.ply_reader.specs.Declarations.{declared}
