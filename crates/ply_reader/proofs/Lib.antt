@@ -1,0 +1,11 @@
+pub mod Beginnings
+pub mod BodySteps
+pub mod EndRuns
+pub mod FewElements
+pub mod HeaderRuns
+pub mod MeshRuns
+pub mod RowSteps
+pub mod Steps
+pub mod TokenRuns
+pub mod WithinRanges
+pub mod WordLists

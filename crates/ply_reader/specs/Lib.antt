@@ -1,0 +1,14 @@
+pub mod Bounds
+pub mod Cursors
+pub mod Declarations
+pub mod HeaderRules
+pub mod HeaderSteps
+pub mod Layout
+pub mod LineWords
+pub mod MeshCalls
+pub mod Names
+pub mod PlyMeaning
+pub mod Ranges
+pub mod Rows
+pub mod Runs
+pub mod TokenValues
