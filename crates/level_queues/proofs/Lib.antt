@@ -1,0 +1,4 @@
+pub mod Runs
+pub mod Growth
+pub mod Closing
+pub mod Pushing

@@ -1,0 +1,2 @@
+//! An octree's words from its cells in ascending order, front to back.
+#![tactic(auto)]
