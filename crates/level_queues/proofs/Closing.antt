@@ -1,5 +1,5 @@
 -- A height is closed: its queue's words are given, and their parent waits in the next queue.
-use Rattle.std.proofs.Common.{map, ◌≡◌, ◌≢◌, ℕ, zero, suc, ◌+◌, ◌-◌, ◌*◌, ◌/◌, ◌%◌, ◌^◌, ◌<◌, ◌≤◌, true, false, List, [], ◌∷◌, ◌++◌, length, refl, sym, ap, ◌∙◌, inl, inr, arith, append-nil, append_assoc, add-zero}
+use Rattle.std.proofs.Common.{map, ◌≡◌, ℕ, zero, suc, ◌+◌, ◌-◌, ◌*◌, ◌/◌, ◌%◌, ◌^◌, ◌<◌, ◌≤◌, true, false, List, [], ◌∷◌, ◌++◌, length, refl, sym, ap, ◌∙◌, inl, inr, arith, append-nil, append_assoc}
 use Rattle.std.specs.List.{sum_by}
 use Rattle.std.proofs.lemmas.List.{length-append}
 use Rattle.std.proofs.Math.Nat.{eq-or-lt_of_le}
@@ -9,7 +9,7 @@ use Rattle.octree_laws.proofs.InTurn.{in_turn-append, length-in_turn}
 use Rattle.octree_laws.proofs.Sizes.{length-below_of}
 use Rattle.octree_laws.proofs.Under.{div-up}
 use Rattle.room_plan.specs.declared.queues.QueueEntry.{QueueEntry}
-use Rattle.level_queues.specs.Queued.{elder_of, before_of, entries_of, AreHeld, written_of, AreQueued, bits_of}
+use Rattle.level_queues.specs.Queued.{elder_of, before_of, entries_of, AreHeld, AreQueued, bits_of}
 use Rattle.level_queues.proofs.Runs.{many_out, entries-append, entries-one, entries-words, entries-bits}
 
 -- the children of a node's parent end with it, where it is nonempty and none beyond is

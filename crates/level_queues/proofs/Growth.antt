@@ -1,9 +1,9 @@
 -- What a new leaf changes: nothing at nodes that it does not lie under.
-use Rattle.std.proofs.Common.{map, ◌≡◌, ◌≢◌, ℕ, zero, suc, ◌+◌, ◌*◌, ◌/◌, ◌^◌, ◌<◌, true, false, cond, List, [], ◌∷◌, ◌++◌, refl, sym, ap, ◌∙◌, arith}
+use Rattle.std.proofs.Common.{◌≡◌, ℕ, zero, suc, ◌+◌, ◌*◌, ◌/◌, ◌^◌, ◌<◌, true, false, cond, List, [], ◌∷◌, ◌++◌, refl, sym, ap, ◌∙◌, arith}
 use Rattle.std.specs.Prelude.{◌==◌, ◌||◌}
 use Rattle.std.specs.List.{sum_by}
 use Rattle.std.proofs.lemmas.Bool.{ne_eqb, eq-eqb, or_from, or_left, or_right, or_parts}
-use Rattle.octree_specs.specs.Octree.{Leaf, is_nonempty, children_of, first_children, size_of, leaf_word, word_of, in_turn, below_of, mask_of}
+use Rattle.octree_specs.specs.Octree.{Leaf, is_nonempty, children_of, size_of, leaf_word, word_of, in_turn, below_of, mask_of}
 use Rattle.octree_laws.proofs.Under.{div-up, div-leaf}
 use Rattle.level_queues.proofs.Runs.{Each, each_child, sum_by-same, in_turn-same, first_children-same}
 

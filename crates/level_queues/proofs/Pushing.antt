@@ -1,13 +1,13 @@
 -- A leaf is put into the lowest queue.
-use Rattle.std.proofs.Common.{map, ◌≡◌, ◌≢◌, ℕ, zero, suc, ◌+◌, ◌-◌, ◌*◌, ◌/◌, ◌%◌, ◌^◌, ◌<◌, ◌≤◌, true, false, List, [], ◌∷◌, ◌++◌, length, refl, sym, ap, subst, ◌∙◌, inl, inr, arith, append-nil, append_assoc, add-zero}
+use Rattle.std.proofs.Common.{◌≡◌, ℕ, zero, suc, ◌+◌, ◌-◌, ◌*◌, ◌/◌, ◌%◌, ◌^◌, ◌<◌, ◌≤◌, false, List, [], ◌∷◌, ◌++◌, length, refl, sym, ap, subst, ◌∙◌, arith, append-nil, add-zero}
 use Rattle.std.specs.List.{sum_by}
 use Rattle.std.proofs.Math.Nat.{div-mul-le_self, pow-suc}
 use Rattle.std.proofs.lemmas.Nat.{le-div}
-use Rattle.octree_specs.specs.Octree.{Leaf, is_nonempty, first_children, children_of, size_of, leaf_word, word_of, in_turn, below_of}
+use Rattle.octree_specs.specs.Octree.{Leaf, is_nonempty, first_children, children_of, size_of, word_of, in_turn, below_of}
 use Rattle.octree_laws.proofs.MaskLeaves.{no_children}
 use Rattle.octree_laws.proofs.Under.{div-up, div-leaf}
 use Rattle.room_plan.specs.declared.queues.QueueEntry.{QueueEntry}
-use Rattle.level_queues.specs.Queued.{elder_of, before_of, entries_of, AreHeld, written_of, AreQueued}
+use Rattle.level_queues.specs.Queued.{elder_of, before_of, entries_of, AreHeld, AreQueued}
 use Rattle.level_queues.proofs.Runs.{Each, each_child, many_out, first_children-same, in_turn-same, entries-append, entries-one, entries-nil, entries-same}
 use Rattle.level_queues.proofs.Growth.{IsSameAt, nonempty-elsewhere, nonempty-here, word-here, belows_same, words_same, same_elsewhere}
 use Rattle.level_queues.proofs.Closing.{children-end, held-kept}

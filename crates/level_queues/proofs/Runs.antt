@@ -1,9 +1,9 @@
 -- Lists that nodes have in turn, where two octrees are alike, or nodes are added.
-use Rattle.std.proofs.Common.{map, ◌≡◌, ℕ, zero, suc, ◌+◌, ◌*◌, ◌%◌, ◌^◌, ◌<◌, ◌≤◌, true, false, cond, List, [], ◌∷◌, ◌++◌, length, refl, sym, ap, ◌∙◌, inl, inr, arith, append-nil, add-zero}
+use Rattle.std.proofs.Common.{map, ◌≡◌, ℕ, zero, suc, ◌+◌, ◌*◌, ◌%◌, ◌^◌, ◌<◌, ◌≤◌, false, List, [], ◌∷◌, ◌++◌, length, refl, sym, ap, ◌∙◌, inl, inr, arith, add-zero}
 use Rattle.std.specs.List.{sum_by}
 use Rattle.std.proofs.lemmas.Bool.{cases_Bool}
 use Rattle.std.proofs.lemmas.List.Sums.{sum_by-cons}
-use Rattle.octree_specs.specs.Octree.{Leaf, is_nonempty, first_children, children_of, size_of, word_of, in_turn, below_of}
+use Rattle.octree_specs.specs.Octree.{Leaf, is_nonempty, first_children, size_of, word_of, in_turn}
 use Rattle.octree_laws.proofs.FirstChildren.{first_children-zero, first_children_more, one_in, one_out}
 use Rattle.octree_laws.proofs.InTurn.{in_turn-append}
 use Rattle.room_plan.specs.declared.queues.QueueEntry.{QueueEntry}

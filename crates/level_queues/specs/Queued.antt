@@ -1,7 +1,7 @@
 -- What waits in the queues, and which words were given, after some leaves of an octree in ascending order.
 --
 -- For each height there is a queue of nodes of that height whose parent is not yet complete. The nodes on the path from the last leaf to the root are still open up to some height; below it nothing waits.
-use Rattle.std.specs.Prelude.{◌≡◌, ℕ, zero, suc, ◌+◌, ◌-◌, ◌*◌, ◌/◌, ◌%◌, ◌^◌, ◌<◌, ◌==◌, true, false, cond, List, [], ◌∷◌, ◌++◌, length, map, take, drop, slice_index_or}
+use Rattle.std.specs.Prelude.{◌≡◌, ℕ, zero, suc, ◌*◌, ◌/◌, ◌%◌, ◌^◌, ◌<◌, true, false, List, [], ◌∷◌, ◌++◌, length, take, drop, slice_index_or}
 use Rattle.std.specs.List.{sum_by}
 use Rattle.octree_specs.specs.Octree.{Leaf, is_nonempty, first_children, children_of, size_of, word_of, in_turn, below_of}
 use Rattle.room_plan.specs.declared.queues.QueueEntry.{QueueEntry}
