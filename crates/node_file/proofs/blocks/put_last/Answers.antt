@@ -1,5 +1,5 @@
 -- What is written is a front of what waits and the trailer.
-use Rattle.std.proofs.Common.{take, ap, ◌∙◌, sym}
+use Rattle.std.proofs.Common.{take, ap, ◌∙◌}
 use Rattle.std.specs.Io.KnownBytes.{append_known}
 use Rattle.octree_specs.specs.OctreeFile.{trailer_of}
 use Rattle.node_file.specs.Waiting.{given_by}
