@@ -1,2 +1,4 @@
 pub mod FileView
 pub mod Told
+pub mod Waiting
+pub mod Writing

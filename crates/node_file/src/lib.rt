@@ -1,9 +1,14 @@
-//! Node files: their words by number.
+//! Node files: their bytes, and their words by number.
 #![tactic(auto)]
 
+mod blocks;
+mod layout;
 mod records;
+mod writer;
 
+pub use layout::{header_bytes, trailer_bytes};
 pub use records::{Records, Totals};
+pub use writer::NodeWriter;
 
 #[cfg(test)]
 mod tests;

@@ -1,12 +1,14 @@
-//! Records in memory, and a caller of them as a layer above would be, to see that the clauses are
-//! enough for it.
+//! Records in memory and a file put into a sink in memory, and callers of both as a layer above would
+//! be, to see that the clauses are enough for them.
 
-ghost use Rattle.std.specs.Prelude.{◌≡◌, ◌+◌, ◌-◌, ◌^◌, ◌<◌, ◌≤◌, List, length, slice_index, Some, Err, IfOk, IfSome};
+ghost use Rattle.std.specs.Prelude.{◌≡◌, ◌∷◌, [], OnOk, ◌+◌, ◌-◌, ◌^◌, ◌<◌, ◌≤◌, List, length, slice_index, Some, Err, IfOk, IfSome};
 ghost use Rattle.dev_traits.specs.Faults.{HasCause, counted};
+ghost use Rattle.octree_specs.specs.OctreeFile.{frame_of};
+ghost use Rattle.std.specs.Io.KnownBytes.{append_known};
 ghost use Rattle.svo_base.specs.GridShape.{IsGrid};
 
-use crate::{Records, Totals};
-use dev_traits::Failed;
+use crate::{NodeWriter, Records, Totals, header_bytes, trailer_bytes};
+use dev_traits::{ByteSink, Failed, MemSink, PartFail};
 use std::marker::Brand;
 use std::sync::ledger::{Blank, Ledger};
 use svo_base::{Grid, Steps};
@@ -117,4 +119,48 @@ fn a_caller_reads_words_by_number(rt: HostRuntime) {
         Err(Failed),
         "where the second call is refused"
     );
+}
+
+/// Puts the file of two words.
+fn put_two<O: ByteSink>(
+    sink: &mut O,
+    block: &mut [u8],
+    grid: &Grid,
+    words: (u64, u64),
+    cells: u64,
+) -> Result<u64, Failed>
+    requires { 48 ≤ length block.old }
+    ensures whole { OnOk result (O.written sink.new ≡ append_known (O.written sink.old) (frame_of 2 grid.now (words.0 ∷ words.1 ∷ []) cells)) }
+    ensures records { IfOk result (λ records. records ≡ 2) }
+    ensures cause { HasCause (O.faults sink.old) (O.faults sink.new) result }
+{
+    let mut writer = NodeWriter::begin(sink, block, grid)?;
+    writer.add(words.0)?;
+    writer.add(words.1)?;
+    let records = writer.finish(cells)?;
+    Ok(records)
+}
+
+const TWO_WORDS: &[u8] =
+    b"SVOCUBE2\x01\0\0\0\0\0\0\0\x05\0\0\0\0\0\0\0\xfe\xff\xff\xff\xff\xff\xff\xff\0\0\0\0\0\0\0\0\x03\0\0\0\0\0\0\0\x01\0\0\0\0\0\0\0\x08\0\0\0\0\0\0\0\0\0\0\0\0\0\0\0\x02\0\0\0\0\0\0\0\x01\0\0\0\0\0\0\0SVOCEND2";
+
+#[test]
+fn a_file_is_put_in_blocks_and_cut_off_at_a_fault(rt: HostRuntime) {
+    let grid = Grid::new(1, [5, -2, 0], 3).expect(&rt, "a grid");
+    let mut block = [0; 56];
+    for call in 1..4 {
+        for taken in 0..2 {
+            let fails = [PartFail { call, taken }];
+            let mut sink = MemSink::new(rt.alloc(), 200, &fails).expect(&rt, "memory");
+            let put = put_two(&mut sink, &mut block, &grid, (1, 8), 1);
+            let written = sink.bytes();
+            assert!(rt; TWO_WORDS.starts_with(written), "a front of the file");
+            assert_eq!(rt; put.is_ok(), call == 3, "two calls are enough");
+            assert_eq!(rt;
+                put.is_ok(),
+                written.len() == TWO_WORDS.len(),
+                "the whole file"
+            );
+        }
+    }
 }
