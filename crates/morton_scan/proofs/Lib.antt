@@ -1,0 +1,4 @@
+pub mod Putting
+pub mod Counting
+pub mod NodesBelow
+pub mod Levels
