@@ -55,3 +55,9 @@ part_slots grid split part count height first is_height is_first room = record {
   from = rw (is_height, is_first) (omega arith);
   to = rw (is_height, is_first) (omega (arith, room));
 }
+
+-- a power of eight by a shift
+pub power_kept : (exponent : ℕ) → exponent ≤ 12 → 1 * 2 ^ (3 * exponent) % 2 ^ 64 ≡ 8 ^ exponent
+power_kept exponent within =
+    let small : 8 ^ exponent - 1 < 2 ^ 60 = code_fits exponent (8 ^ exponent - 1) (omega arith) (omega (arith, eight_pos exponent)) in
+    rw (← eights exponent) (omega (arith, small))

@@ -2,3 +2,4 @@ pub mod Putting
 pub mod Counting
 pub mod NodesBelow
 pub mod Levels
+pub mod FilledParts

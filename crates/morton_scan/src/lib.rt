@@ -9,3 +9,6 @@ mod nodes;
 
 pub use cells::{FilledCell, next_code};
 pub use filling::fill_triangle;
+
+#[cfg(test)]
+mod tests;

@@ -32,8 +32,7 @@ fill_node-requires g t c κs within =
 
 pub loop-octant-preserved : goal.loop-octant-preserved
 loop-octant-preserved g t c =
-    let same : c.child.result.height ≡ c.args.node.now.height - 1 = omega (arith, c.child.ensures.height) in
-    (
+    let same : c.child.result.height ≡ c.args.node.now.height - 1 = omega (arith, c.child.ensures.height) in (
       put_child c.args.grid.now c.args.triangle.now (c.args.node.now.height - 1) (8 * c.args.node.now.code) c.loop-octant.octant c.child.result.height c.child.result.code
           c.args.put.now.first c.args.put.now.face c.args.slots.now c.loop-octant.slots c.fill_node.new.slots same c.child.ensures.code c.loop-octant.invariant.0 c.fill_node.ensures.slots,
       λ test pass. child_tests test c.args.tests.now c.loop-octant.tests c.fill_node.new.tests (c.args.node.now.height - 1) c.args.node.now.code c.loop-octant.octant c.child.result.height c.child.result.code
