@@ -1,5 +1,5 @@
 -- The next slot that is not 0, sought from a place on.
-use Rattle.std.proofs.Common.{◌≡◌, ℕ, ◌+◌, ◌-◌, ◌<◌, ◌≤◌, List, Option, Some, None, MatchOption, length, get_or, take, drop, arith, sym, subst, ◌∙◌}
+use Rattle.std.proofs.Common.{◌≡◌, ℕ, ◌+◌, ◌-◌, ◌<◌, ◌≤◌, List, length, get_or, take, drop, arith, sym, subst, ◌∙◌}
 use Rattle.bit_grid.proofs.PlacesLemmas.{word_of_rest}
 use Rattle.bit_grid.specs.Slots.{HasNoSlotFrom, IsNextSlot}
 

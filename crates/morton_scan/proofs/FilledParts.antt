@@ -1,5 +1,5 @@
 -- Slots that are cleared and then filled with one triangle after another are those of all of them.
-use Rattle.std.proofs.Common.{◌≡◌, ℕ, zero, suc, ◌+◌, ◌-◌, ◌*◌, ◌/◌, ◌^◌, ◌<◌, ◌≤◌, Bool, true, false, List, [], ◌∷◌, get_or, min, arith, refl, sym, subst, ◌∙◌, add-one, All, ⊎_elim}
+use Rattle.std.proofs.Common.{◌≡◌, ℕ, zero, suc, ◌+◌, ◌-◌, ◌*◌, ◌^◌, ◌<◌, ◌≤◌, List, [], ◌∷◌, get_or, min, arith, refl, sym, subst, ◌∙◌, add-one, inl, inr}
 use Rattle.std.proofs.lemmas.Bool.{cases_Bool, both_ways}
 use Rattle.std.proofs.lemmas.List.Elements.{All-nil}
 use Rattle.svo_base.specs.GridShape.{GridShape}
@@ -12,12 +12,12 @@ use Rattle.octree_specs.specs.Parts.{part_with}
 use Rattle.morton_code.proofs.Children.{are_ranges}
 use Rattle.grid_parts.proofs.Growing.{joined, slot_joined, slot_passed}
 use Rattle.bit_grid.specs.Slots.{lesser_slot}
-use Rattle.morton_scan.specs.FilledParts.{HasSlotsFor}
+use Rattle.morton_scan.specs.FilledParts.{HasSlotsFor, GrowsByTriangles}
 use Rattle.morton_scan.specs.Putting.{ArePut, MeetsInPart, first_of_part}
 
 -- both say what a slot keeps
 joined_is : (slot face : ℕ) → joined slot face ≡ lesser_slot slot face
-unfolding joined lesser_slot
+unfolding lesser_slot
 joined_is zero face = refl
 joined_is (suc held) face = sym (add-one (min held face))
 
@@ -51,3 +51,6 @@ triangle_more grid split part x faced old new before are_put place within =
       | inl yes_good ↦ met (is_met.0 yes_good)
       | inr no_good ↦ passed (λ meets. both_ways (has_good_candidate x.triangle (node_cube grid grid.depth code)) no_good (is_met.1 meets))
     ]
+
+pub grows_by_triangles : GrowsByTriangles
+grows_by_triangles = record { none = no_triangle; more = triangle_more }

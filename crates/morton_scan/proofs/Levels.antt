@@ -1,11 +1,8 @@
 -- Levels and heights of nodes.
-use Rattle.std.proofs.Common.{◌≡◌, ℕ, suc, ◌+◌, ◌-◌, ◌*◌, ◌%◌, ◌^◌, ◌<◌, ◌≤◌, arith, subst, sym}
+use Rattle.std.proofs.Common.{◌≡◌, ℕ, suc, ◌+◌, ◌-◌, ◌*◌, ◌%◌, ◌^◌, ◌<◌, ◌≤◌, arith, subst}
 use Rattle.std.proofs.Math.Nat.{pow-suc, mul-le-mul_right}
 use Rattle.std.proofs.lemmas.Nat.{pow-add}
 use Rattle.svo_base.specs.GridShape.{GridShape, IsGrid}
-use Rattle.svo_base.specs.declared.shapes.Cube.{Cube}
-use Rattle.octree_specs.specs.Meeting.{HasPlanes}
-use Rattle.octree_specs.specs.NodeCube.{node_cube}
 use Rattle.morton_code.proofs.Coordinates.{code_fits}
 use Rattle.morton_code.proofs.Heights.{eights, eight_pos}
 use Rattle.morton_code.proofs.Sides.{is_shallow}

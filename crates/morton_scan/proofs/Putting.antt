@@ -1,13 +1,12 @@
 -- A face put into the slots of some cells and then of others.
 use Rattle.std.proofs.Common.{◌≡◌, ℕ, suc, ◌+◌, ◌-◌, ◌*◌, ◌/◌, ◌^◌, ◌<◌, ◌≤◌, List, length, get_or, set, arith, refl, sym, ap, subst, ◌∙◌, get_or-set_same, get_or-set_other, ⊎_elim}
-use Rattle.std.proofs.lemmas.Bool.{cases_eq, cases_lt}
+use Rattle.std.proofs.lemmas.Bool.{cases_lt}
 use Rattle.std.proofs.Math.Nat.{pow-suc, div-div-eq-div-mul}
 use Rattle.svo_base.specs.GridShape.{GridShape}
 use Rattle.svo_base.specs.declared.shapes.Triangle.{Triangle}
 use Rattle.bit_grid.specs.Slots.{lesser_slot}
 use Rattle.octree_specs.specs.Meeting.{Meets}
 use Rattle.octree_specs.specs.NodeCube.{node_cube}
-use Rattle.octree_specs.specs.Parts.{part_with}
 use Rattle.morton_scan.specs.Putting.{ArePut, MetUnder, MeetsInPart, first_of_part}
 
 -- where no code is chosen, nothing changes

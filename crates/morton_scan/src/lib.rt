@@ -5,10 +5,12 @@
 
 mod cells;
 mod filling;
+mod laws;
 mod nodes;
 
 pub use cells::{FilledCell, next_code};
 pub use filling::fill_triangle;
+pub use laws::slots_grow_by_triangles;
 
 #[cfg(test)]
 mod tests;

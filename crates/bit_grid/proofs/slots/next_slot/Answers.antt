@@ -1,4 +1,4 @@
-use Rattle.std.proofs.Common.{◌-◌, ◌<◌, length, arith, rules}
+use Rattle.std.proofs.Common.{arith, rules}
 use Rattle.bit_grid.proofs.SlotsLemmas.{none_after, next_after}
 use Rattle.bit_grid.proofs.slots.next_slot.Goals as goal
 

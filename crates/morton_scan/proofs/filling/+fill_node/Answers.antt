@@ -1,7 +1,6 @@
 -- A node that is not met changes nothing; a cell that is met is put; a node above it is its children.
-use Rattle.std.proofs.Common.{◌≡◌, ℕ, suc, Bool, ◌+◌, ◌-◌, ◌*◌, ◌≤◌, length, arith, sym, subst, ◌∙◌}
+use Rattle.std.proofs.Common.{◌≡◌, suc, ◌+◌, ◌-◌, ◌*◌, length, arith, sym, subst}
 use Rattle.octree_specs.specs.Meeting.{Meets}
-use Rattle.octree_specs.specs.Parts.{passing}
 use Rattle.morton_scan.proofs.Counting.{child_tests, tests_within}
 use Rattle.morton_scan.specs.Nodes.{HasSlots}
 use Rattle.morton_scan.proofs.Levels.{child_slots}

@@ -1,5 +1,5 @@
 -- The height falls. The children so far have their faces, by so many tests.
-use Rattle.std.proofs.Common.{◌≡◌, ℕ, Bool, ◌+◌, ◌-◌, ◌*◌, ◌≤◌, length}
+use Rattle.std.proofs.Common.{ℕ, Bool, ◌+◌, ◌-◌, ◌*◌, ◌≤◌}
 use Rattle.octree_specs.specs.Parts.{PassWhereMet}
 use Rattle.morton_scan.specs.Putting.{ArePut, MetUnder}
 use Rattle.morton_scan.proofs.Counting.{passing_children}

@@ -1,4 +1,4 @@
-use Rattle.std.proofs.Common.{◌≡◌, ◌+◌, ◌-◌, subst, ◌∙◌}
+use Rattle.std.proofs.Common.{◌+◌, subst, ◌∙◌}
 use Rattle.morton_scan.specs.Putting.{ArePut, MetUnder}
 use Rattle.morton_scan.proofs.Putting.{put_part}
 use Rattle.morton_scan.proofs.filling.fill_triangle.Goals as goal

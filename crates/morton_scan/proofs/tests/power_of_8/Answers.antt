@@ -1,4 +1,3 @@
-use Rattle.std.proofs.Common.{◌≡◌, ◌*◌, ◌^◌, ◌<◌, arith}
 use Rattle.morton_scan.proofs.Levels.{power_kept}
 use Rattle.morton_scan.proofs.tests.power_of_8.Goals as goal
 

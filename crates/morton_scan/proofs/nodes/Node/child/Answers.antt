@@ -1,4 +1,4 @@
-use Rattle.std.proofs.Common.{◌≡◌, ◌+◌, ◌-◌, suc, arith, refl}
+use Rattle.std.proofs.Common.{◌-◌, arith, refl}
 use Rattle.morton_scan.proofs.Levels.{child_below, child_small}
 use Rattle.morton_scan.proofs.nodes.Node.child.Goals as goal
 
