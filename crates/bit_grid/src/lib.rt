@@ -1,10 +1,14 @@
 //! A set of small numbers, kept as the bits of lent words: bit `place % 64` of word `place / 64`
-//! says whether the set has `place`.
+//! says whether the set has `place`. Beside it, slots that each keep the least number put into them.
 #![tactic(auto)]
+
+mod slots;
 
 ghost use Rattle.std.specs.Prelude.{◌≡◌, ◌≢◌, ℕ, ◌*◌, ◌/◌, ◌%◌, ◌^◌, ◌<◌, ◌≤◌, true, false, length, slice_index, IfNone, IfSome, MatchOption};
 ghost use Rattle.std.specs.Int.{bit_at};
 ghost use Rattle.bit_grid.specs.Places.{is_set_at, HasNoneFrom, IsNextSet, IsLowestBit};
+
+pub use slots::{clear_slots, next_slot, put_least};
 
 /// The number of places that a word has.
 const WORD_BITS: u64 = 64;
@@ -108,6 +112,31 @@ mod tests {
                 "the least place from {from} on"
             );
         }
+    }
+
+    #[test]
+    fn slots_keep_the_least(rt: HostRuntime) {
+        let mut slots = [7; 5];
+        clear_slots(&mut slots);
+        assert_eq!(rt; slots, [0; 5]);
+        for (place, face) in [(1, 9), (1, 4), (1, 6), (3, 0), (3, 2), (4, 4_294_967_294)] {
+            put_least(&mut slots, place, face);
+        }
+        assert_eq!(rt; slots, [0, 5, 0, 1, u32::MAX]);
+        for (from, wanted) in [
+            (0, Some(1)),
+            (2, Some(3)),
+            (4, Some(4)),
+            (5, None),
+            (u64::MAX, None),
+        ] {
+            assert_eq!(rt;
+                next_slot(&slots, from),
+                wanted,
+                "the least place from {from} on"
+            );
+        }
+        assert_eq!(rt; next_slot(&slots[2..3], 0), None);
     }
 
     #[test]

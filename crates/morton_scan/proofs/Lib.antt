@@ -1,0 +1,5 @@
+pub mod Putting
+pub mod Counting
+pub mod NodesBelow
+pub mod Levels
+pub mod FilledParts

@@ -1,0 +1,4 @@
+pub mod Nodes
+pub mod Putting
+pub mod NextCells
+pub mod FilledParts

@@ -1,0 +1,16 @@
+//! The cells of one part of a grid that triangles meet: each has a slot, which keeps the least face
+//! that meets it. A triangle is filled in by walking down the octree's nodes below the part (Laine,
+//! Karras 2010; Schwarz, Seidel 2010).
+#![tactic(auto)]
+
+mod cells;
+mod filling;
+mod laws;
+mod nodes;
+
+pub use cells::{FilledCell, next_code};
+pub use filling::fill_triangle;
+pub use laws::slots_grow_by_triangles;
+
+#[cfg(test)]
+mod tests;
