@@ -3,3 +3,4 @@ pub mod Counting
 pub mod NodesBelow
 pub mod Levels
 pub mod FilledParts
+pub mod Planes
