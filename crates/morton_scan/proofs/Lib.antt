@@ -4,3 +4,4 @@ pub mod NodesBelow
 pub mod Levels
 pub mod FilledParts
 pub mod Planes
+pub mod ReachedCubes
