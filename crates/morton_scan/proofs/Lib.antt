@@ -3,3 +3,5 @@ pub mod Counting
 pub mod NodesBelow
 pub mod Levels
 pub mod FilledParts
+pub mod Planes
+pub mod ReachedCubes

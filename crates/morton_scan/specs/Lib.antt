@@ -2,3 +2,4 @@ pub mod Nodes
 pub mod Putting
 pub mod NextCells
 pub mod FilledParts
+pub mod Reaching

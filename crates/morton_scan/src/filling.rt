@@ -2,9 +2,11 @@
 
 ghost use Rattle.std.specs.Prelude.{◌≡◌, ℕ, Bool, ◌+◌, ◌-◌, ◌*◌, ◌^◌, ◌<◌, ◌≤◌, length};
 ghost use Rattle.octree_specs.specs.Parts.{passing, PassWhereMet};
+ghost use Rattle.morton_scan.specs.Reaching.{bounds_of};
 ghost use Rattle.morton_scan.specs.Nodes.{IsNode, HasSlots};
 ghost use Rattle.morton_scan.specs.Putting.{ArePut, MeetsInPart, MetUnder, first_of_part};
 
+use crate::bounds::Bounds;
 use crate::nodes::Node;
 use bit_grid::put_least;
 use std::sync::ledger::Ledger;
@@ -35,7 +37,12 @@ pub fn fill_triangle<L: Ledger>(
     let node = Node::new(grid, split, u64::from(part));
     let first = first_code(grid, split, part);
     let prepared = PreparedTriangle::new(triangle);
-    fill_node(grid, &prepared, &node, &Put { face, first }, slots, tests);
+    let put = Put {
+        face,
+        first,
+        bounds: Bounds::new(triangle),
+    };
+    fill_node(grid, &prepared, &node, &put, slots, tests);
 }
 
 /// The code of a part's first cell.
@@ -47,14 +54,17 @@ fn first_code(grid: &Grid, split: u32, part: u32) -> u64
     u64::from(part) << (3 * (grid.depth() - split))
 }
 
-/// What is put into slots: a face, where the first slot is that of the cell with this code.
+/// What is put into slots: a face, whose triangle has these bounds, where the first slot is that of
+/// the cell with this code.
 #[derive(Drop)]
 struct Put {
     face: u32,
     first: u64,
+    bounds: Bounds,
 }
 
-/// Puts a face into the slots of the cells under a node that the triangle meets.
+/// Puts a face into the slots of the cells under a node that the triangle meets. Of the children only
+/// those are asked that the triangle's box reaches.
 fn fill_node<L: Ledger>(
     grid: &Grid,
     triangle: &PreparedTriangle,
@@ -65,6 +75,7 @@ fn fill_node<L: Ledger>(
 )
     requires node { IsNode grid.now node.now }
     requires face { put.now.face + 1 < 2 ^ 32 }
+    requires bounds { put.now.bounds ≡ bounds_of triangle.now }
     requires slots { HasSlots put.now.first (length slots.old) node.now.height node.now.code }
     ensures slots { ArePut (MetUnder grid.now triangle.now node.now.height node.now.code (node.now.code + 1)) put.now.first put.now.face slots.old slots.new }
     ensures tests { (test : ℕ → ℕ → Bool) → PassWhereMet grid.now triangle.now test → tests.new ≤ tests.old + 1 + 8 * passing test node.now.height node.now.code }
@@ -77,6 +88,9 @@ fn fill_node<L: Ledger>(
         return;
     }
     for octant in 0..8 {
-        fill_node(grid, triangle, &node.child(grid, octant), put, slots, tests);
+        let child = node.child(grid, octant);
+        if put.bounds.reach(&child.cube) {
+            fill_node(grid, triangle, &child, put, slots, tests);
+        }
     }
 }

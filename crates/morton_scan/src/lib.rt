@@ -3,6 +3,7 @@
 //! Karras 2010; Schwarz, Seidel 2010).
 #![tactic(auto)]
 
+mod bounds;
 mod cells;
 mod filling;
 mod laws;
