@@ -1,5 +1,13 @@
 pub mod Runs
+pub mod QueueRows
+pub mod Wording
+pub mod Onward
 pub mod Growth
 pub mod Closing
+pub mod Opening
 pub mod Pushing
+pub mod Leaving
+pub mod Bounds
+pub mod Turns
+pub mod PushedCells
 pub mod Digits

@@ -104,17 +104,17 @@ module _ (leaves : List Leaf) (leaf : Leaf) where
       )
 
   -- the leaf is put behind its elder siblings
-  put_leaf : (above last : ℕ) (before after : ℕ → List QueueEntry) (words : List ℕ) → HasReached leaves (suc above) 0 leaf.node before words
-      → ((h k : ℕ) → last / 8 ^ h < k → is_nonempty leaves h k ≡ false) → last ≤ leaf.node → is_nonempty leaves 0 leaf.node ≡ false
+  put_leaf : (above : ℕ) (before after : ℕ → List QueueEntry) (words : List ℕ) → HasReached leaves (suc above) 0 leaf.node before words
+      → ((h k : ℕ) → leaf.node / 8 ^ h < k → is_nonempty leaves h k ≡ false) → is_nonempty leaves 0 leaf.node ≡ false
       → after 0 ≡ before 0 ++ record { word = leaf.word; state = leaf.node } ∷ [] → ((k : ℕ) → (k ≡ 0 → ⊥) → after k ≡ before k)
       → AreQueued (leaves ++ leaf ∷ []) above 0 leaf.node after words
   unfolding before_of AreHeld grown word_of below_of
-  put_leaf above last before after words reached none later empty put kept =
+  put_leaf above before after words reached none empty put kept =
       let node : ℕ = leaf.node in
       let here : node ≡ node / 8 ^ 0 = sym (div-leaf node) in
       let up : node / 8 ^ suc 0 ≡ node / 8 = div-up node 0 ∙ ap (λ n. n / 8) (div-leaf node) in
       let beyond : (h k : ℕ) → node / 8 ^ h < k → is_nonempty grown h k ≡ false =
-      λ h k far. nonempty-elsewhere leaves leaf h k (λ same. omega (arith, same, far)) ∙ none h k (omega (arith, far, ancestors_rise last node h later)) in
+      λ h k far. nonempty-elsewhere leaves leaf h k (λ same. omega (arith, same, far)) ∙ none h k far in
       let front : List ℕ = before_of leaves above 1 (node / 8) in
       let same_front : before_of grown above 1 (node / 8) ≡ front = before-grown above 1 (node / 8) (sym up) in
       let children : children_of grown 0 (node / 8) ≡ elder_of grown 0 node ++ node ∷ [] =
@@ -139,14 +139,21 @@ module _ (leaves : List Leaf) (leaf : Leaf) where
       no_words leaves at [] = refl
       no_words leaves at (x ∷ rest) = no_words leaves (at + size_of leaves 0 x) rest
 
+  -- all before the new leaf is given or waits
+  pub reach_leaf : (above height last : ℕ) (queues : ℕ → List QueueEntry) (words : List ℕ) → AreQueued leaves above height last queues words
+      → leaf.node / 8 ^ suc height ≡ last / 8 ^ suc height → ((h k : ℕ) → h ≤ height → leaf.node / 8 ^ h ≤ k → is_nonempty leaves h k ≡ false)
+      → HasReached leaves (suc (above + height)) 0 leaf.node queues words
+  reach_leaf above height last queues words are path none =
+      subst (λ n. HasReached leaves n 0 leaf.node queues words) (let e : suc above + height ≡ suc (above + height) = omega arith in e)
+      (sink leaves leaf.node (suc above) height queues words
+      (turn leaves above height last (leaf.node / 8 ^ height) queues words are (sym (div-up leaf.node height) ∙ path) (λ k far. none height k (omega arith) far))
+      (λ h low. none h (leaf.node / 8 ^ h) low (omega arith)))
+
   pub push_leaf : (above height last : ℕ) (before after : ℕ → List QueueEntry) (words : List ℕ) → AreQueued leaves above height last before words
-      → leaf.node / 8 ^ suc height ≡ last / 8 ^ suc height → ((h k : ℕ) → h ≤ height → leaf.node / 8 ^ h ≤ k → is_nonempty leaves h k ≡ false) → last ≤ leaf.node
+      → leaf.node / 8 ^ suc height ≡ last / 8 ^ suc height → ((h k : ℕ) → h ≤ height → leaf.node / 8 ^ h ≤ k → is_nonempty leaves h k ≡ false)
+      → ((h k : ℕ) → leaf.node / 8 ^ h < k → is_nonempty leaves h k ≡ false)
       → after 0 ≡ before 0 ++ record { word = leaf.word; state = leaf.node } ∷ [] → ((k : ℕ) → (k ≡ 0 → ⊥) → after k ≡ before k)
       → AreQueued (leaves ++ leaf ∷ []) (above + height) 0 leaf.node after words
   push_leaf above height last before after words are path none later put kept =
-      put_leaf (above + height) last before after words
-      (subst (λ n. HasReached leaves n 0 leaf.node before words) (let e : suc above + height ≡ suc (above + height) = omega arith in e)
-      (sink leaves leaf.node (suc above) height before words
-      (turn leaves above height last (leaf.node / 8 ^ height) before words are (sym (div-up leaf.node height) ∙ path) (λ k far. none height k (omega arith) far))
-      (λ h low. none h (leaf.node / 8 ^ h) low (omega arith))))
-      are.none later (none 0 leaf.node (omega arith) (omega (arith, div-leaf leaf.node))) put kept
+      put_leaf (above + height) before after words (reach_leaf above height last before words are path none)
+      later (none 0 leaf.node (omega arith) (omega (arith, div-leaf leaf.node))) put kept

@@ -1,1 +1,3 @@
+pub mod GivenWords
 pub mod Queued
+pub mod Pushed

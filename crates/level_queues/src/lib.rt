@@ -5,8 +5,11 @@
 #![tactic(auto)]
 
 mod codes;
+mod entries;
+mod levels;
 
 pub use codes::{ancestor, turning_height};
+pub use levels::LevelQueues;
 
 #[cfg(test)]
 mod tests;

@@ -1,0 +1,191 @@
+//! The queues of the levels.
+
+ghost use Rattle.std.specs.Prelude.{◌≡◌, ◌+◌, ◌-◌, ◌*◌, ◌/◌, ◌%◌, ◌^◌, ◌<◌, ◌≤◌, ℕ, length, slice_index_or};
+
+use crate::codes::{ancestor, turning_height};
+use crate::entries::write_entries;
+use dev_traits::{ByteSink, Failed};
+use node_file::NodeWriter;
+use room_plan::{QueueEntry, Queues};
+use std::sync::ledger::Ledger;
+use svo_base::Steps;
+
+/// The nonempty nodes of an octree whose parents are not complete yet, in a queue of up to eight for
+/// each level below the root.
+///
+/// Cells come in ascending order of their codes. A push closes the levels whose nodes the new code
+/// leaves: each closed queue's words are given to the writer, and one parent is placed a level higher.
+/// The order of words is that of Baert, Lagae and Dutré (2013): children before their parent, siblings
+/// together. After a fault the queues are only dropped.
+#[derive(Drop)]
+pub struct LevelQueues<'a> {
+    depth: u32,
+    // The queue of height h, which is the number of levels from its nodes down to the cells, has eight
+    // entries from place 8 * h on, of which the first `counts[h]` wait.
+    queues: Queues<'a>,
+    counts: [usize; 12],
+    last: u64,
+    cells: u64,
+    words: u64,
+    ghost least: { 0 < depth },
+    ghost most: { depth ≤ 12 },
+    ghost room: { length queues.entries ≡ 8 * depth },
+    ghost wide: { length counts ≡ 12 },
+    ghost rows: { (k : ℕ) → slice_index_or counts k 0 ≤ 8 },
+    ghost inside: { last < 8 ^ depth },
+    ghost few: { cells ≤ last + 1 },
+}
+
+impl<'a> LevelQueues<'a> {
+    ghost use Rattle.std.specs.Prelude.{[], ◌∷◌, ◌++◌, ◌≢◌, List, slice_set, IfOk, OnOk};
+    ghost use Rattle.dev_traits.specs.Faults.{HasCause};
+    ghost use Rattle.node_file.specs.Writing.{given};
+    ghost use Rattle.level_queues.specs.GivenWords.{with_words, words_in};
+    ghost use Rattle.octree_specs.specs.Octree.{Leaf};
+    ghost use Rattle.level_queues.specs.Queued.{queue_of, bits_of};
+    ghost use Rattle.level_queues.specs.Pushed.{IsQueuedAt, IsQueued, lowest_of, GoesOn};
+
+    /// Empty queues for an octree of this depth, over entries whose contents do not matter.
+    pub fn new(depth: u32, queues: Queues<'a>) -> LevelQueues<'a>
+        requires least { 0 < depth }
+        requires most { depth ≤ 12 }
+        requires room { length queues.entries ≡ 8 * depth }
+        ensures queued { IsQueued [] result [] }
+        ensures depth { result.depth ≡ depth }
+        ensures placed { result.queues.placed ≡ queues.entry.placed }
+    {
+        LevelQueues {
+            depth,
+            queues,
+            counts: [0; 12],
+            last: 0,
+            cells: 0,
+            words: 0,
+        }
+    }
+
+    /// The height below which nothing waits between two pushes.
+    fn lowest(&self) -> u32
+        ensures { result ≡ lowest_of self.now }
+    {
+        if self.cells == 0 { self.depth - 1 } else { 0 }
+    }
+
+    /// The height below which all is closed before this code is put.
+    fn target(&self, code: u64) -> u32
+        requires inside { code < 8 ^ self.now.depth }
+        ensures within { result < self.now.depth }
+        ensures reached { lowest_of self.now ≤ result }
+        ensures same { code / 8 ^ (result + 1) ≡ self.now.last / 8 ^ (result + 1) }
+        ensures apart { 0 < self.now.cells → 0 < result → code / 8 ^ result ≢ self.now.last / 8 ^ result }
+    {
+        if self.cells == 0 {
+            return self.depth - 1;
+        }
+        turning_height(self.last, code, self.depth)
+    }
+
+    /// Closes all heights below this one.
+    fn close_below<O: ByteSink, L: Ledger>(
+        &mut self,
+        target: u32,
+        writer: &mut NodeWriter<'_, O>,
+        moves: &mut Steps<L>,
+    ) -> Result<(), Failed>
+        requires target { target < self.old.depth }
+        requires reached { lowest_of self.old ≤ target }
+        requires queued { (leaves : List Leaf) × (words : List ℕ) × IsQueuedAt leaves (lowest_of self.old) self.old words }
+        requires records { writer.old.records ≡ self.old.words }
+        ensures queued { OnOk result ((leaves : List Leaf) → (words : List ℕ) → IsQueuedAt leaves (lowest_of self.old) self.old words
+            → GoesOn words (given writer.old) (given writer.new) (IsQueuedAt leaves target self.new)) }
+        ensures records { OnOk result (writer.new.records ≡ self.new.words) }
+        ensures sink { writer.new.sink.ghost_name ≡ writer.old.sink.ghost_name }
+        ensures depth { self.new.depth ≡ self.old.depth }
+        ensures last { self.new.last ≡ self.old.last }
+        ensures cells { self.new.cells ≡ self.old.cells }
+        ensures placed { self.new.queues.placed + lowest_of self.old ≤ self.old.queues.placed + target }
+        ensures moves { moves.new + lowest_of self.old ≤ moves.old + target }
+        ensures cause { HasCause (O.faults writer.old.sink.now) (O.faults writer.new.sink.now) result }
+    {
+        for height in self.lowest()..target {
+            self.close(height, writer, moves)?;
+        }
+        Ok(())
+    }
+
+    /// Gives the words of a height's queue, and places their parent in the next.
+    fn close<O: ByteSink, L: Ledger>(
+        &mut self,
+        height: u32,
+        writer: &mut NodeWriter<'_, O>,
+        moves: &mut Steps<L>,
+    ) -> Result<(), Failed>
+        requires height { height + 1 < self.old.depth }
+        requires queued { (leaves : List Leaf) × (words : List ℕ) × IsQueuedAt leaves height self.old words }
+        requires records { writer.old.records ≡ self.old.words }
+        ensures queued { OnOk result ((leaves : List Leaf) → (words : List ℕ) → IsQueuedAt leaves height self.old words
+            → GoesOn words (given writer.old) (given writer.new) (IsQueuedAt leaves (height + 1) self.new)) }
+        ensures records { OnOk result (writer.new.records ≡ self.new.words) }
+        ensures sink { writer.new.sink.ghost_name ≡ writer.old.sink.ghost_name }
+        ensures depth { self.new.depth ≡ self.old.depth }
+        ensures last { self.new.last ≡ self.old.last }
+        ensures cells { self.new.cells ≡ self.old.cells }
+        ensures placed { self.new.queues.placed ≤ self.old.queues.placed + 1 }
+        ensures moves { moves.new ≤ moves.old + 1 }
+        ensures cause { HasCause (O.faults writer.old.sink.now) (O.faults writer.new.sink.now) result }
+    {
+        let word = self.write_row(height, writer)?;
+        let state = ancestor(self.last, height + 1);
+        self.put(height + 1, QueueEntry { word, state }, moves);
+        Ok(())
+    }
+
+    /// Gives the words of a height's queue, which is empty then, and answers their parent's word.
+    fn write_row<O: ByteSink>(
+        &mut self,
+        height: u32,
+        writer: &mut NodeWriter<'_, O>,
+    ) -> Result<u64, Failed>
+        requires height { height < self.old.depth }
+        requires few { self.old.words ≤ 2 ^ 40 }
+        requires records { writer.old.records ≡ self.old.words }
+        ensures word { IfOk result (λ word. word ≡ bits_of (queue_of self.old.queues.entries self.old.counts height) + 256 * self.old.words) }
+        ensures given { OnOk result (given writer.new ≡ with_words (given writer.old) (words_in (queue_of self.old.queues.entries self.old.counts height))) }
+        ensures words { OnOk result (self.new.words ≡ self.old.words + slice_index_or self.old.counts height 0) }
+        ensures counts { OnOk result (self.new.counts ≡ slice_set self.old.counts height 0) }
+        ensures records { OnOk result (writer.new.records ≡ self.new.words) }
+        ensures sink { writer.new.sink.ghost_name ≡ writer.old.sink.ghost_name }
+        ensures queues { self.new.queues ≡ self.old.queues }
+        ensures depth { self.new.depth ≡ self.old.depth }
+        ensures last { self.new.last ≡ self.old.last }
+        ensures cells { self.new.cells ≡ self.old.cells }
+        ensures cause { HasCause (O.faults writer.old.sink.now) (O.faults writer.new.sink.now) result }
+    {
+        let row = height as usize;
+        let count = self.counts[row];
+        let bits = write_entries(&self.queues, 8 * row, count, writer)?;
+        let word = bits + 256 * self.words;
+        self.words += count as u64;
+        self.counts[row] = 0;
+        Ok(word)
+    }
+
+    /// Places an entry behind those of a height's queue.
+    fn put<L: Ledger>(&mut self, height: u32, entry: QueueEntry, moves: &mut Steps<L>)
+        requires height { height < self.old.depth }
+        requires room { slice_index_or self.old.counts height 0 < 8 }
+        ensures entries { self.new.queues.entries ≡ slice_set self.old.queues.entries (8 * height + slice_index_or self.old.counts height 0) entry }
+        ensures placed { self.new.queues.placed ≤ self.old.queues.placed + 1 }
+        ensures counts { self.new.counts ≡ slice_set self.old.counts height (slice_index_or self.old.counts height 0 + 1) }
+        ensures depth { self.new.depth ≡ self.old.depth }
+        ensures last { self.new.last ≡ self.old.last }
+        ensures cells { self.new.cells ≡ self.old.cells }
+        ensures words { self.new.words ≡ self.old.words }
+        ensures moves { moves.new ≡ moves.old + 1 }
+    {
+        let row = height as usize;
+        let count = self.counts[row];
+        self.queues.place(8 * row + count, entry, moves);
+        self.counts[row] = count + 1;
+    }
+}
