@@ -1,15 +1,15 @@
 -- How many words and entries there are at most.
-use Rattle.std.proofs.Common.{◌≡◌, ℕ, zero, suc, ◌+◌, ◌-◌, ◌*◌, ◌/◌, ◌%◌, ◌^◌, ◌<◌, ◌≤◌, List, [], ◌∷◌, ◌++◌, length, refl, sym, ap, ◌∙◌, arith, suc-mul, mul-le-mul_right}
+use Rattle.std.proofs.Common.{◌≡◌, ℕ, zero, suc, ◌+◌, ◌-◌, ◌*◌, ◌/◌, ◌%◌, ◌^◌, ◌<◌, ◌≤◌, List, [], ◌∷◌, ◌++◌, length, ap, ◌∙◌, arith, suc-mul, mul-le-mul_right}
 use Rattle.std.specs.List.{sum_by}
 use Rattle.std.proofs.Math.Nat.{pow-suc}
 use Rattle.std.proofs.lemmas.List.{length-append}
 use Rattle.std.proofs.lemmas.List.Sums.{sum_by-cons}
-use Rattle.octree_specs.specs.Octree.{Leaf, first_children, children_of, size_of, in_turn, below_of}
+use Rattle.octree_specs.specs.Octree.{Leaf, children_of, size_of, in_turn, below_of}
 use Rattle.octree_laws.proofs.FirstChildren.{length-first_children}
 use Rattle.octree_laws.proofs.InTurn.{length-in_turn}
 use Rattle.octree_laws.proofs.Sizes.{length-below_of, size-few}
 use Rattle.room_plan.specs.declared.queues.QueueEntry.{QueueEntry}
-use Rattle.level_queues.specs.Queued.{elder_of, before_of, entries_of, AreHeld, AreQueued}
+use Rattle.level_queues.specs.Queued.{elder_of, before_of, AreHeld, AreQueued}
 use Rattle.level_queues.proofs.Runs.{length-entries}
 use Rattle.level_queues.proofs.Pushing.{HasReached}
 

@@ -1,5 +1,5 @@
 -- Words that were given in two calls.
-use Rattle.std.proofs.Common.{◌≡◌, List, ◌++◌, ap, ◌∙◌, subst, append_assoc, append-nil, sym, []}
+use Rattle.std.proofs.Common.{List, ◌++◌, ap, ◌∙◌, subst, append_assoc, append-nil, sym, []}
 use Rattle.std.proofs.Common.{ℕ}
 use Rattle.std.specs.Prelude.{Option}
 use Rattle.level_queues.specs.GivenWords.{with_words}

@@ -1,5 +1,5 @@
 -- Before the first leaf nothing is given and nothing waits.
-use Rattle.std.proofs.Common.{◌≡◌, ℕ, zero, suc, ◌/◌, ◌^◌, ◌*◌, ◌<◌, List, [], ◌∷◌, take, drop, get_or, refl, sym, ap, ◌∙◌, arith}
+use Rattle.std.proofs.Common.{◌≡◌, ℕ, zero, suc, ◌^◌, ◌*◌, ◌<◌, List, [], ◌∷◌, take, drop, get_or, refl, ap, arith}
 use Rattle.std.specs.Prelude.{replicate}
 use Rattle.std.proofs.Math.Nat.{pow-suc}
 use Rattle.octree_specs.specs.Octree.{first_children}

@@ -1,7 +1,6 @@
 -- The queues' rows of eight entries: one entry put, and a row emptied.
-use Rattle.std.proofs.Common.{◌≡◌, ℕ, zero, suc, ◌+◌, ◌-◌, ◌*◌, ◌<◌, ◌≤◌, List, [], ◌∷◌, ◌++◌, length, take, drop, get_or, set, refl, sym, ap, ◌∙◌, inl, inr, arith}
-use Rattle.std.specs.Prelude.{min}
-use Rattle.std.proofs.lemmas.List.{get_or-set_same, get_or-set_other, drop-set-add, drop-set-lt, take_more_set, take-set-le, length-take-le, length-drop, set_past}
+use Rattle.std.proofs.Common.{◌≡◌, ℕ, ◌+◌, ◌-◌, ◌*◌, ◌<◌, ◌≤◌, List, [], ◌∷◌, ◌++◌, length, take, drop, get_or, set, ap, ◌∙◌, inl, inr, arith}
+use Rattle.std.proofs.lemmas.List.{get_or-set_same, get_or-set_other, drop-set-add, drop-set-lt, take_more_set, take-set-le, length-take-le, length-drop}
 use Rattle.std.proofs.lemmas.Bool.{cases_lt}
 use Rattle.std.proofs.Math.Nat.{eq-or-lt_of_le}
 use Rattle.room_plan.specs.declared.queues.QueueEntry.{QueueEntry}

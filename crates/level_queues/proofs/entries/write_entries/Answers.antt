@@ -1,5 +1,5 @@
 -- One entry more.
-use Rattle.std.proofs.Common.{arith, ◌≡◌, ◌^◌, ◌*◌, ◌%◌, ◌+◌, ◌<◌, ℕ, List, drop, take, length, refl, sym, ap, ◌∙◌}
+use Rattle.std.proofs.Common.{arith, ◌≡◌, ◌^◌, ◌*◌, ◌%◌, ◌+◌, ◌<◌, List, drop, take, length, refl, sym, ap, ◌∙◌}
 use Rattle.std.specs.Int.{w64, to_le_bytes}
 use Rattle.std.specs.Io.KnownBytes.{append_known}
 use Rattle.node_file.specs.Writing.{given}

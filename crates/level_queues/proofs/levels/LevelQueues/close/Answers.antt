@@ -1,7 +1,7 @@
 -- A height is closed, and the next one's queue has room for the parent.
-use Rattle.std.proofs.Common.{◌≡◌, ℕ, ◌+◌, ◌-◌, ◌*◌, ◌/◌, ◌^◌, ◌<◌, ◌≤◌, suc, List, length, get_or, set, ap, ◌∙◌, arith, add-one}
+use Rattle.std.proofs.Common.{ℕ, ◌+◌, ◌*◌, ◌/◌, ◌^◌, ◌<◌, get_or, set, ap, ◌∙◌, arith, add-one}
 use Rattle.level_queues.specs.GivenWords.{words_in}
-use Rattle.level_queues.specs.Queued.{AreQueued, queue_of, bits_of}
+use Rattle.level_queues.specs.Queued.{queue_of, bits_of}
 use Rattle.level_queues.proofs.Turns.{AreRows, few_given, room_next, close_fields, length-queue}
 use Rattle.level_queues.proofs.levels.LevelQueues.close.Goals as goal
 

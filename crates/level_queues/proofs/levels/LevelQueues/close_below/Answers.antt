@@ -1,7 +1,6 @@
 -- One height more is closed.
-use Rattle.std.proofs.Common.{◌≡◌, ◌+◌, ◌≤◌, ◌++◌, ℕ, List, refl, sym, ◌∙◌, subst, arith}
+use Rattle.std.proofs.Common.{◌≡◌, ◌+◌, ◌++◌, refl, sym, ◌∙◌, subst, arith}
 use Rattle.node_file.specs.Writing.{given}
-use Rattle.octree_specs.specs.Octree.{Leaf}
 use Rattle.level_queues.specs.Pushed.{IsQueuedAt, lowest_of, GoesOn}
 use Rattle.level_queues.proofs.Onward.{goes_nowhere, goes_further}
 use Rattle.level_queues.proofs.levels.LevelQueues.close_below.Goals as goal

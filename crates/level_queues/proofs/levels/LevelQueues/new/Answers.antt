@@ -1,5 +1,5 @@
 -- Nothing waits in rows of no entries.
-use Rattle.std.proofs.Common.{◌≡◌, ◌-◌, ℕ, suc, [], refl, sym, subst, arith}
+use Rattle.std.proofs.Common.{◌≡◌, ◌-◌, suc, [], refl, sym, subst, arith}
 use Rattle.level_queues.specs.Queued.{AreQueued, queue_of}
 use Rattle.level_queues.proofs.Opening.{no_counts, zero_row, zero_queue, none_queued, some_cells}
 use Rattle.level_queues.proofs.levels.LevelQueues.new.Goals as goal
