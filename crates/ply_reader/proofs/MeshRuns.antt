@@ -7,7 +7,7 @@ use Rattle.ply_reader.specs.declared.fault.PlyFault.{PlyFault}
 use Rattle.ply_reader.specs.declared.fault.PlyFault.TheVariants.{ReadFault}
 use Rattle.ply_reader.specs.declared.fans.Fan.{Fan}
 use Rattle.ply_reader.specs.declared.scales.Scale.{Scale}
-use Rattle.ply_reader.specs.Declarations.{Declared}
+use Rattle.ply_reader.specs.Declarations.{Declared, nothing_declared}
 use Rattle.ply_reader.specs.Layout.{before_vertices, before_faces, behind_faces, behind_list, before_list, vertex_properties, vertex_count, face_count}
 use Rattle.ply_reader.specs.Cursors.{Cursor, Step, at, onward, done}
 use Rattle.ply_reader.specs.Rows.{row_passed, elements_passed, vertex_row, origin, corner, fan_opened}
@@ -210,6 +210,7 @@ from_vertices scale c = header_joins scale (whole_header c)
 pub begins_well : (scale : Scale) (d : Declared) (a b : Reading) (body : BodyReading) → body ≡ start_of b scale d → Runs vertices_reached a b (Ok d) → Begins scale a (record { body = body; stopped = None })
 begins_well scale d a b body is runs = subst (λ r. Begins scale a (record { body = r; stopped = None })) (sym is) (record {
   start = refl;
+  empty = tt;
   later = runs.later;
   failed = λ bad. absurd (cc bad);
   reached = tt;
@@ -219,9 +220,10 @@ begins_well scale d a b body is runs = subst (λ r. Begins scale a (record { bod
       (after.0, after.1, from_vertices scale (at a.place text) ∙ ap (λ r. reach r (λ e. vertices_rest scale e (vertex_count e) (face_element_rest e))) after.2 ∙ rest_is (start_of b scale d) after.0);
 })
 
-pub begins_stopped : (scale : Scale) (d : Declared) (a b : Reading) (fault : PlyFault) (body : BodyReading) → body ≡ start_of b scale d → Runs vertices_reached a b (Err fault) → Begins scale a (record { body = body; stopped = Some fault })
-begins_stopped scale d a b fault body is runs = subst (λ r. Begins scale a (record { body = r; stopped = Some fault })) (sym is) (record {
+pub begins_stopped : (scale : Scale) (d : Declared) (a b : Reading) (fault : PlyFault) (body : BodyReading) → d ≡ nothing_declared → body ≡ start_of b scale d → Runs vertices_reached a b (Err fault) → Begins scale a (record { body = body; stopped = Some fault })
+begins_stopped scale d a b fault body nothing is runs = subst (λ r. Begins scale a (record { body = r; stopped = Some fault })) (sym is) (record {
   start = refl;
+  empty = nothing;
   later = runs.later;
   failed = λ bad. let same : fault ≡ ReadFault = cc bad in runs.failed (ap Err same);
   reached = runs.reached;

@@ -13,7 +13,7 @@ use Rattle.ply_reader.specs.declared.fans.FaceTriangle.{FaceTriangle}
 use Rattle.ply_reader.specs.declared.scales.Scale.{Scale}
 use Rattle.ply_reader.specs.declared.body.Body.{Body}
 use Rattle.ply_reader.specs.declared.mesh.MeshReader.{MeshReader}
-use Rattle.ply_reader.specs.Declarations.{Declared, declared}
+use Rattle.ply_reader.specs.Declarations.{Declared, declared, nothing_declared}
 use Rattle.ply_reader.specs.Layout.{vertex_count, face_count}
 use Rattle.ply_reader.specs.Cursors.{Cursor, at}
 use Rattle.ply_reader.specs.HeaderSteps.{whole_header}
@@ -109,9 +109,10 @@ abbrev pub start_of : Reading → Scale → Declared → BodyReading
 start_of text scale d =
     record { text = text; scale = scale; header = d; vertices = vertex_count d; waits = true; faces = face_count d; fan = None }
 
--- how a reader begins: at the vertices, or stopped by what it met before them
+-- how a reader begins: at the vertices, or stopped by what it met before them, and then with nothing declared
 pub record Begins (scale : Scale) (old : Reading) (new : MeshReading) : Type 0 where
   pub start : new.body ≡ start_of new.body.text scale new.body.header
+  pub empty : IfSome new.stopped (λ _. new.body.header ≡ nothing_declared)
   pub later : old.faults ≤ new.body.text.faults
   pub failed : new.stopped ≡ Some ReadFault → Rose old.faults new.body.text.faults
   pub reached : IfSome new.stopped (λ fault. refused_place fault ≤ new.body.text.place + new.body.text.ahead)

@@ -42,7 +42,7 @@ pub(crate) struct Body {
 }
 
 impl Body {
-    ghost use Rattle.std.specs.Prelude.{IfOk, IfSome, IsSome, MatchOption, false, ℕ, List, []};
+    ghost use Rattle.std.specs.Prelude.{Ok, IfOk, IfSome, IsSome, MatchOption, false, ℕ, List, []};
     ghost use Rattle.ply_text.specs.Reading.{Reading, reading};
     ghost use Rattle.ply_text.specs.Calls.{SameLent};
     ghost use Rattle.ply_reader.specs.Layout.{vertex_count, face_count};
@@ -88,6 +88,7 @@ impl Body {
         ensures same { SameLent tokens.old tokens.new }
         ensures run { MeshRun give_vertex (body_reading (reading tokens.old) self.old) (body_reading (reading tokens.new) self.new) result }
         ensures counted { IfOk result (CountsVertex (body_reading (reading tokens.old) self.old) (body_reading (reading tokens.new) self.new)) }
+        ensures used_up { self.old.vertices ≡ 0 → result ≡ Ok None }
     {
         if self.vertices == 0 {
             return Ok(None);

@@ -26,7 +26,7 @@ pub struct MeshReader<'a, I: ByteSource> {
 }
 
 impl<'a, I: ByteSource> MeshReader<'a, I> {
-    ghost use Rattle.std.specs.Prelude.{None, IfOk};
+    ghost use Rattle.std.specs.Prelude.{None, Ok, IfOk};
     ghost use Rattle.ply_text.specs.Calls.{SameLent};
     ghost use Rattle.ply_reader.specs.Layout.{vertex_count, face_count};
     ghost use Rattle.ply_reader.specs.MeshCalls.{mesh_reading, MeshCall, Begins, HasNoFace, AtEnd, CountsVertex, CountsFace, give_vertex, give_face, give_end};
@@ -60,6 +60,7 @@ impl<'a, I: ByteSource> MeshReader<'a, I> {
         ensures same { SameLent self.old.tokens self.new.tokens }
         ensures call { MeshCall give_vertex (mesh_reading self.old) (mesh_reading self.new) result }
         ensures counted { IfOk result (CountsVertex (mesh_reading self.old).body (mesh_reading self.new).body) }
+        ensures used_up { self.old.stopped ≡ None → (mesh_reading self.old).body.vertices ≡ 0 → result ≡ Ok None }
     {
         if let Some(fault) = self.stopped {
             return Err(fault);

@@ -25,5 +25,5 @@ returns-clause-begins g c =
           let d = declared w.new-in-Err.result in
           let runs = runs_given vertices_reached a b (mapped declared c.read_to_vertices.result) (Err w.in-Err.fault) (ap (mapped declared) w.in-Err.is) c.read_to_vertices.ensures.runs in
           subst (λ r. Begins scale a (record { body = body_reading (reading r.0) r.1.0; stopped = r.1.1.0 })) (sym w.result-is)
-          (begins_stopped scale d a b w.in-Err.fault (body_reading b w.new-in-Err-2.result) (w.new-in-Err-2.ensures b) runs)
+          (begins_stopped scale d a b w.in-Err.fault (body_reading b w.new-in-Err-2.result) w.new-in-Err.ensures (w.new-in-Err-2.ensures b) runs)
     ]
