@@ -25,7 +25,7 @@ use Rattle.grid_parts.specs.Laws.{LiesInPart, FillsPart}
 -- ---- a cell's part
 
 -- what meets a cell meets each node above it; so many levels lie between
-meets_above : (t : Triangle) (grid : GridShape) (levels level code : ℕ) → level + levels ≤ grid.depth
+pub meets_above : (t : Triangle) (grid : GridShape) (levels level code : ℕ) → level + levels ≤ grid.depth
     → Meets t (node_cube grid (level + levels) code) → Meets t (node_cube grid level (code / 8 ^ levels))
 meets_above t grid zero level code within met =
     let here : level + 0 ≡ level = omega arith in

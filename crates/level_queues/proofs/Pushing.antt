@@ -4,12 +4,13 @@ use Rattle.std.specs.List.{sum_by}
 use Rattle.std.proofs.Math.Nat.{div-mul-le_self, pow-suc}
 use Rattle.std.proofs.lemmas.Nat.{le-div}
 use Rattle.octree_specs.specs.Octree.{Leaf, is_nonempty, first_children, children_of, size_of, word_of, in_turn, below_of}
+use Rattle.octree_laws.proofs.Growth.{Each, IsSameAt, in_turn-same, leaf_word-here, nonempty_elsewhere, nonempty_here, same_elsewhere}
 use Rattle.octree_laws.proofs.MaskLeaves.{no_children}
 use Rattle.octree_laws.proofs.Under.{div-up, div-leaf}
 use Rattle.room_plan.specs.declared.queues.QueueEntry.{QueueEntry}
 use Rattle.level_queues.specs.Queued.{elder_of, before_of, entries_of, AreHeld, AreQueued}
-use Rattle.level_queues.proofs.Runs.{Each, each_child, many_out, first_children-same, in_turn-same, entries-append, entries-one, entries-nil, entries-same}
-use Rattle.level_queues.proofs.Growth.{IsSameAt, nonempty-elsewhere, nonempty-here, word-here, belows_same, words_same, same_elsewhere}
+use Rattle.level_queues.proofs.Runs.{each_child, many_out, first_children-same, entries-append, entries-one, entries-nil, entries-same}
+use Rattle.level_queues.proofs.Growth.{belows_same, words_same}
 use Rattle.level_queues.proofs.Closing.{children-end, held-kept}
 
 -- ancestors of greater codes are not less
@@ -75,7 +76,7 @@ module _ (leaves : List Leaf) (leaf : Leaf) where
   elder-grown : (height node : ℕ) → node ≡ leaf.node / 8 ^ height → elder_of grown height node ≡ elder_of leaves height node
   unfolding grown
   elder-grown height node path =
-      first_children-same grown leaves height (node / 8) (node % 8) (λ k low. nonempty-elsewhere leaves leaf height (8 * (node / 8) + k) (λ same. omega (arith, low, same, path)))
+      first_children-same grown leaves height (node / 8) (node % 8) (λ k low. nonempty_elsewhere leaves leaf height (8 * (node / 8) + k) (λ same. omega (arith, low, same, path)))
 
   pub before-grown : (above height node : ℕ) → node ≡ leaf.node / 8 ^ height → before_of (leaves ++ leaf ∷ []) above height node ≡ before_of leaves above height node
   unfolding before_of grown
@@ -114,11 +115,11 @@ module _ (leaves : List Leaf) (leaf : Leaf) where
       let here : node ≡ node / 8 ^ 0 = sym (div-leaf node) in
       let up : node / 8 ^ suc 0 ≡ node / 8 = div-up node 0 ∙ ap (λ n. n / 8) (div-leaf node) in
       let beyond : (h k : ℕ) → node / 8 ^ h < k → is_nonempty grown h k ≡ false =
-      λ h k far. nonempty-elsewhere leaves leaf h k (λ same. omega (arith, same, far)) ∙ none h k far in
+      λ h k far. nonempty_elsewhere leaves leaf h k (λ same. omega (arith, same, far)) ∙ none h k far in
       let front : List ℕ = before_of leaves above 1 (node / 8) in
       let same_front : before_of grown above 1 (node / 8) ≡ front = before-grown above 1 (node / 8) (sym up) in
       let children : children_of grown 0 (node / 8) ≡ elder_of grown 0 node ++ node ∷ [] =
-      children-end grown 0 node (rw (div-leaf node) at (nonempty-here leaves leaf 0)) (λ k far. beyond 0 k (omega (arith, far, here))) in
+      children-end grown 0 node (rw (div-leaf node) at (nonempty_here leaves leaf 0 (node / 8 ^ 0) refl)) (λ k far. beyond 0 k (omega (arith, far, here))) in
       record {
         written = rw (up, same_front) (reached.written ∙ ap (λ l. front ++ l) (no_words leaves (length front) (elder_of leaves 0 node) ∙ sym (no_words grown (length front) (children_of grown 0 (node / 8)))));
         lowest = rw (up, same_front)
@@ -128,11 +129,11 @@ module _ (leaves : List Leaf) (leaf : Leaf) where
             ∙ (entries-append grown 0 (length front) (elder_of grown 0 node) (node ∷ [])
             ∙ (ap (λ l. l ++ entries_of grown 0 (length front + sum_by (size_of grown 0) (elder_of grown 0 node)) (node ∷ [])) (entries-grown 0 (length front) node here)
             ∙ ap (λ l. entries_of leaves 0 (length front) (elder_of leaves 0 node) ++ l)
-            (entries-one grown 0 (length front + sum_by (size_of grown 0) (elder_of grown 0 node)) node ∙ ap (λ w. record { word = w; state = node } ∷ []) (word-here leaves leaf empty)))))));
+            (entries-one grown 0 (length front + sum_by (size_of grown 0) (elder_of grown 0 node)) node ∙ ap (λ w. record { word = w; state = node } ∷ []) (leaf_word-here leaves leaf empty)))))));
         higher = rw up (held-kept grown before after above 1 (node / 8) (λ k high. kept k (λ same. omega (arith, same, high))) (held-grown before above 1 (node / 8) (sym up) reached.higher.1));
         closed = λ k low. absurd (omega (arith, low));
         none = beyond;
-        some = λ higher h. nonempty-here leaves leaf h;
+        some = λ higher h. nonempty_here leaves leaf h (leaf.node / 8 ^ h) refl;
       }
     where
       no_words : (leaves : List Leaf) (at : ℕ) (nodes : List ℕ) → in_turn (size_of leaves 0) (below_of leaves 0) at nodes ≡ []

@@ -6,18 +6,9 @@ use Rattle.std.proofs.lemmas.List.Sums.{sum_by-cons}
 use Rattle.octree_specs.specs.Octree.{Leaf, is_nonempty, first_children, size_of, word_of, in_turn}
 use Rattle.octree_laws.proofs.FirstChildren.{first_children-zero, first_children_more, one_in, one_out}
 use Rattle.octree_laws.proofs.InTurn.{in_turn-append}
+use Rattle.octree_laws.proofs.Growth.{Each, each-append}
 use Rattle.room_plan.specs.declared.queues.QueueEntry.{QueueEntry}
 use Rattle.level_queues.specs.Queued.{entries_of, bits_of}
-
--- each number of a list
-unfoldable pub Each : (ℕ → Type 0) → List ℕ → Type 0
-Each P [] = Unit {0}
-Each P (n ∷ rest) = P n × Each P rest
-
-pub each-append : (P : ℕ → Type 0) (xs ys : List ℕ) → Each P xs → Each P ys → Each P (xs ++ ys)
-unfolding Each
-each-append P [] ys left right = right
-each-append P (x ∷ xs) ys left right = (left.0, each-append P xs ys left.1 right)
 
 -- of each of the first children
 pub each_child : (P : ℕ → Type 0) (leaves : List Leaf) (height node count : ℕ) → ((k : ℕ) → k < count → P (8 * node + k)) → Each P (first_children leaves height node count)
@@ -32,17 +23,6 @@ each_child P leaves height node (suc count) all =
       | inr empty ↦ rw (one_out leaves height node count empty) before
     ] in
     rw e whole
-
-pub sum_by-same : (f g : ℕ → ℕ) (nodes : List ℕ) → Each (λ node. f node ≡ g node) nodes → sum_by f nodes ≡ sum_by g nodes
-unfolding Each
-sum_by-same f g [] same = refl
-sum_by-same f g (x ∷ xs) same = sum_by-cons f x xs ∙ (rw (same.0, sum_by-same f g xs same.1) (sym (sum_by-cons g x xs)))
-
-pub in_turn-same : {A : Type 0} (f g : ℕ → ℕ) (first second : ℕ → ℕ → List A) (at : ℕ) (nodes : List ℕ)
-    → Each (λ node. (f node ≡ g node) × ((from : ℕ) → first node from ≡ second node from)) nodes → in_turn f first at nodes ≡ in_turn g second at nodes
-unfolding Each
-in_turn-same f g first second at [] same = refl
-in_turn-same f g first second at (x ∷ xs) same = rw (same.0.1 at, same.0.0, in_turn-same f g first second (at + g x) xs same.1) refl
 
 -- the same children, where the same of them are nonempty
 pub first_children-same : (xs ys : List Leaf) (height node count : ℕ) → ((k : ℕ) → k < count → is_nonempty xs height (8 * node + k) ≡ is_nonempty ys height (8 * node + k))

@@ -63,11 +63,11 @@ pub record IsSameAt (xs ys : List Leaf) (height node : ℕ) : Type 0 where
   pub below : (at : ℕ) → below_of xs height node at ≡ below_of ys height node at
 
 -- each node of a list, by recursion
-Each : (ℕ → Type 0) → List ℕ → Type 0
+unfoldable pub Each : (ℕ → Type 0) → List ℕ → Type 0
 Each P [] = Unit {0}
 Each P (n ∷ rest) = P n × Each P rest
 
-each-append : (P : ℕ → Type 0) (xs ys : List ℕ) → Each P xs → Each P ys → Each P (xs ++ ys)
+pub each-append : (P : ℕ → Type 0) (xs ys : List ℕ) → Each P xs → Each P ys → Each P (xs ++ ys)
 unfolding Each
 each-append P [] ys left right = right
 each-append P (x ∷ xs) ys left right = (left.0, each-append P xs ys left.1 right)
@@ -102,12 +102,12 @@ same_first xs ys height node alike one (suc count) few =
     ])
 
 -- sums and lists in turn over nodes that are alike
-sum_by-same : (f g : ℕ → ℕ) (nodes : List ℕ) → Each (λ n. f n ≡ g n) nodes → sum_by f nodes ≡ sum_by g nodes
+pub sum_by-same : (f g : ℕ → ℕ) (nodes : List ℕ) → Each (λ n. f n ≡ g n) nodes → sum_by f nodes ≡ sum_by g nodes
 unfolding Each
 sum_by-same f g [] each = refl
 sum_by-same f g (n ∷ rest) each = sum_by-cons f n rest ∙ (rw (each.0, sum_by-same f g rest each.1) (sym (sum_by-cons g n rest)))
 
-in_turn-same : {A : Type 0} (s t : ℕ → ℕ) (f g : ℕ → ℕ → List A) (at : ℕ) (nodes : List ℕ) → Each (λ n. (s n ≡ t n) × ((from : ℕ) → f n from ≡ g n from)) nodes → in_turn s f at nodes ≡ in_turn t g at nodes
+pub in_turn-same : {A : Type 0} (s t : ℕ → ℕ) (f g : ℕ → ℕ → List A) (at : ℕ) (nodes : List ℕ) → Each (λ n. (s n ≡ t n) × ((from : ℕ) → f n from ≡ g n from)) nodes → in_turn s f at nodes ≡ in_turn t g at nodes
 unfolding Each
 in_turn-same s t f g at [] each = refl
 in_turn-same s t f g at (n ∷ rest) each = rw (each.0.1 at, each.0.0, in_turn-same s t f g (at + t n) rest each.1) refl
