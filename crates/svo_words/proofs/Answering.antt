@@ -13,7 +13,7 @@ use Rattle.svo_words.specs.Names.{passes}
 use Rattle.svo_words.specs.Matching.{HasFound}
 use Rattle.svo_words.specs.Lookups.{Lookup}
 use Rattle.svo_words.specs.Seen.{values_of}
-use Rattle.svo_words.specs.Forms.{CommandForm, commands, build_form, read_as, form_of}
+use Rattle.svo_words.specs.Forms.{CommandForm, commands, build_form, why_form, read_as, form_of}
 use Rattle.svo_words.specs.Reading.{IsRead, AreValues}
 use Rattle.svo_words.proofs.Choosing.{equal_bytes}
 use Rattle.svo_words.specs.declared.values.Values.{Values}
@@ -101,11 +101,17 @@ pub build_named : (words : List (List ℕ)) → 0 < length words → slice_index
 unfolding form_of commands
 build_named words some name = ap form_of (first_is words some) ∙ ap (λ word. form_of (word ∷ drop 1 words)) name
 
+pub why_named : (words : List (List ℕ)) → 0 < length words → slice_index_or words 0 [] ≡ codes "why"
+    → form_of words ≡ read_as why_form (settings_in why_form.choices (drop 1 words))
+unfolding form_of commands
+why_named words some name = ap form_of (first_is words some) ∙ ap (λ word. form_of (word ∷ drop 1 words)) name
+
 unlike : (word name : List ℕ) → (word ≡ name → ⊥) → bytes_eq word name ≡ false
 unlike word name differ = elim (cases_Bool (bytes_eq word name)) [ inl same ↦ absurd (differ (equal_bytes word name same)) | inr other ↦ other ]
 
-pub not_named : (words : List (List ℕ)) → 0 < length words → (slice_index_or words 0 [] ≡ codes "build" → ⊥) → form_of words ≡ Err NoCommand
+pub not_named : (words : List (List ℕ)) → 0 < length words → (slice_index_or words 0 [] ≡ codes "build" → ⊥) → (slice_index_or words 0 [] ≡ codes "why" → ⊥) → form_of words ≡ Err NoCommand
 unfolding form_of commands
-not_named words some build =
+not_named words some build why =
     let no_build = unlike (slice_index_or words 0 []) (codes "build") build in
-    ap form_of (first_is words some) ∙ rw no_build refl
+    let no_why = unlike (slice_index_or words 0 []) (codes "why") why in
+    ap form_of (first_is words some) ∙ rw (no_build, no_why) refl

@@ -8,6 +8,7 @@ use Rattle.svo_words.specs.Settings.{Setting, are_counted, value_of}
 use Rattle.svo_words.specs.Grammar.{Spells, IsInForm}
 use Rattle.svo_words.specs.Steps.{settings_of, settings_in, counted}
 use Rattle.svo_words.specs.Build.{build_choices}
+use Rattle.svo_words.specs.Why.{why_choices}
 use Rattle.svo_words.specs.Forms.{CommandForm, commands, has_name, read_as, read_by, form_of}
 use Rattle.svo_words.specs.Meaning.{IsAmong, Begins, Sets, Means}
 use Rattle.svo_words.specs.declared.commands.Command.{Command}
@@ -46,15 +47,17 @@ reads_in_form choices words settings e = go (settings_of choices words) refl e
 -- ---- the commands
 
 names_ok : (form : CommandForm) → IsAmong commands form → are_names form.choices ≡ true
-unfolding commands build_choices
+unfolding commands build_choices why_choices
 names_ok form (inl is) = ap (λ (f : CommandForm). are_names f.choices) (sym is)
-names_ok form (inr none) = absurd none
+names_ok form (inr (inl is)) = ap (λ (f : CommandForm). are_names f.choices) (sym is)
+names_ok form (inr (inr none)) = absurd none
 
 -- a command is found by its name
 found_by_name : (form : CommandForm) → IsAmong commands form → find (has_name form.name) commands ≡ Some form
 unfolding commands
 found_by_name form (inl is) = let P : CommandForm → Type 0 = λ f. find (has_name f.name) commands ≡ Some f in subst P is refl
-found_by_name form (inr none) = absurd none
+found_by_name form (inr (inl is)) = let P : CommandForm → Type 0 = λ f. find (has_name f.name) commands ≡ Some f in subst P is refl
+found_by_name form (inr (inr none)) = absurd none
 
 found_among : (forms : List CommandForm) (name : List ℕ) (form : CommandForm) → find (has_name name) forms ≡ Some form → IsAmong forms form × (name ≡ form.name)
 found_among [] name form e = absurd cc

@@ -1,11 +1,12 @@
 -- Numbers with commas between them, taken off the front one at a time.
-use Rattle.std.proofs.Common.{◌≡◌, ℕ, suc, ◌+◌, ◌<◌, ◌≤◌, Bool, true, false, ◌&&◌, List, [], ◌∷◌, length, map, take, drop, Option, None, Some, ℤ, arith, refl, sym, ap, ◌∙◌, cond}
+use Rattle.std.proofs.Common.{◌≡◌, ℕ, suc, ◌+◌, ◌<◌, ◌≤◌, Bool, true, false, ◌&&◌, List, [], ◌∷◌, ◌++◌, length, map, set, take, drop, Option, None, Some, ℤ, arith, refl, sym, ap, ◌∙◌, cond}
 use Rattle.std.specs.Option.{option_map}
 use Rattle.std.specs.List.{list_all, slice_split, position_or_len}
 use Rattle.std.specs.Char.{is_ascii_digit}
 use Rattle.std.specs.Prelude.{◌==◌, if◌then◌else◌, nat_lt, nat_le}
 use Rattle.std.proofs.Common.{inl, inr}
 use Rattle.std.proofs.lemmas.Bool.{cases_Bool, ltb-true, ltb-false}
+use Rattle.std.proofs.lemmas.List.{append_assoc, drop_all, set_split}
 use Rattle.std.proofs.lemmas.List.Splits.{slice_split_first, length-slice_split}
 use Rattle.std.proofs.lemmas.Bool.Decides.{nat_tests}
 use Rattle.svo_words.specs.Numbers.{is_comma, number_of, numbers_of, all_some, digits_of, ◌>>=◌}
@@ -111,17 +112,52 @@ numbers_one text =
           ∙ sym (no_number (number_of text))
     ]
 
--- three numbers, from what stands before each comma
-pub three_without_first : (text : List ℕ) → number_before text ≡ None → None ≡ numbers_of 3 text
-three_without_first text h = sym (numbers_more 1 text ∙ rw h refl)
+-- ---- a list that is read from the front
 
-pub three_without_second : (text rest : List ℕ) (x : ℤ) → number_before text ≡ Some (x, rest) → number_before rest ≡ None → None ≡ numbers_of 3 text
-three_without_second text rest x h k = sym (numbers_more 1 text ∙ rw (h, numbers_more 0 rest, k) refl)
+-- so many numbers of the rest are left, behind those that were read
+abbrev pub IsLeft : ℕ → List ℕ → List ℤ → ℕ → List ℕ → Type 0
+IsLeft count whole front left rest = numbers_of count whole ≡ option_map (λ xs. front ++ xs) (numbers_of left rest)
 
-pub three_without_third : (text rest last : List ℕ) (x y : ℤ) → number_before text ≡ Some (x, rest) → number_before rest ≡ Some (y, last)
-    → number_of last ≡ None → None ≡ numbers_of 3 text
-three_without_third text rest last x y h k l = sym (numbers_more 1 text ∙ rw (h, numbers_more 0 rest, k, numbers_one last, l) refl)
+joined-nil : (o : Option (List ℤ)) → o ≡ option_map (λ xs. [] ++ xs) o
+joined-nil None = refl
+joined-nil (Some xs) = refl
 
-pub three_numbers : (text rest last : List ℕ) (x y z : ℤ) → number_before text ≡ Some (x, rest) → number_before rest ≡ Some (y, last)
-    → number_of last ≡ Some z → Some (x ∷ y ∷ z ∷ []) ≡ numbers_of 3 text
-three_numbers text rest last x y z h k l = sym (numbers_more 1 text ∙ rw (h, numbers_more 0 rest, k, numbers_one last, l) refl)
+joined-more : (front : List ℤ) (x : ℤ) (o : Option (List ℤ)) → option_map (λ xs. front ++ xs) (option_map (λ xs. x ∷ xs) o) ≡ option_map (λ xs. (front ++ x ∷ []) ++ xs) o
+joined-more front x None = refl
+joined-more front x (Some xs) = ap Some (sym (append_assoc front (x ∷ []) xs))
+
+pub all_left : (count : ℕ) (whole : List ℕ) → IsLeft count whole [] count whole
+all_left count whole = joined-nil (numbers_of count whole)
+
+joined : List ℤ → Option (List ℤ) → Option (List ℤ)
+joined front o = option_map (λ xs. front ++ xs) o
+
+pub one_less : (count k : ℕ) (whole : List ℕ) (front : List ℤ) (rest behind : List ℕ) (x : ℤ) → IsLeft count whole front (suc (suc k)) rest
+    → number_before rest ≡ Some (x, behind) → IsLeft count whole (front ++ x ∷ []) (suc k) behind
+unfolding joined
+one_less count k whole front rest behind x left found =
+    let first : numbers_of (suc (suc k)) rest ≡ option_map (λ xs. x ∷ xs) (numbers_of (suc k) behind) = numbers_more k rest ∙ rw found refl in
+    left ∙ ap (joined front) first ∙ joined-more front x (numbers_of (suc k) behind)
+
+missing : (count : ℕ) (whole : List ℕ) (front : List ℤ) (left : ℕ) (rest : List ℕ) → IsLeft count whole front left rest → numbers_of left rest ≡ None → None ≡ numbers_of count whole
+unfolding joined
+missing count whole front left rest is none = let e : numbers_of count whole ≡ None = is ∙ ap (joined front) none in sym e
+
+pub none_before : (count k : ℕ) (whole : List ℕ) (front : List ℤ) (rest : List ℕ) → IsLeft count whole front (suc (suc k)) rest
+    → number_before rest ≡ None → None ≡ numbers_of count whole
+none_before count k whole front rest left none = missing count whole front (suc (suc k)) rest left (numbers_more k rest ∙ rw none refl)
+
+pub none_last : (count : ℕ) (whole : List ℕ) (front : List ℤ) (rest : List ℕ) → IsLeft count whole front 1 rest → number_of rest ≡ None → None ≡ numbers_of count whole
+none_last count whole front rest left none = missing count whole front 1 rest left (numbers_one rest ∙ rw none refl)
+
+pub all_read : (count : ℕ) (whole : List ℕ) (front : List ℤ) (rest : List ℕ) (x : ℤ) → IsLeft count whole front 1 rest → number_of rest ≡ Some x
+    → Some (front ++ x ∷ []) ≡ numbers_of count whole
+unfolding joined
+all_read count whole front rest x left found =
+    let last : numbers_of 1 rest ≡ Some (x ∷ []) = numbers_one rest ∙ rw found refl in
+    let e : numbers_of count whole ≡ Some (front ++ x ∷ []) = left ∙ ap (joined front) last in sym e
+
+-- the last of a list is set
+pub last_set : (xs : List ℤ) (i : ℕ) (x : ℤ) → length xs ≡ suc i → set xs i x ≡ take i xs ++ x ∷ []
+last_set xs i x whole =
+    set_split xs i x (omega (arith, whole)) ∙ ap (λ (back : List ℤ). take i xs ++ x ∷ back) (drop_all (suc i) xs (omega (arith, whole)))

@@ -7,8 +7,9 @@ use Rattle.svo_words.specs.Settings.{Setting, value_of}
 use Rattle.svo_words.specs.Steps.{settings_in}
 use Rattle.svo_words.specs.Lookups.{Lookup}
 use Rattle.svo_words.specs.Build.{build_choices, build_from}
+use Rattle.svo_words.specs.Why.{why_choices, why_from}
 use Rattle.svo_words.specs.declared.commands.Command.{Command}
-use Rattle.svo_words.specs.declared.commands.Command.TheVariants.{Build}
+use Rattle.svo_words.specs.declared.commands.Command.TheVariants.{Build, Why}
 use Rattle.svo_words.specs.declared.commands.WordFault.{WordFault}
 use Rattle.svo_words.specs.declared.commands.WordFault.TheVariants.{Command as NoCommand, Options, Value}
 
@@ -21,8 +22,11 @@ pub record CommandForm : Type 0 where
 abbrev pub build_form : CommandForm
 build_form = record { name = codes "build"; choices = build_choices; reads = λ values. option_map Build (build_from values) }
 
+abbrev pub why_form : CommandForm
+why_form = record { name = codes "why"; choices = why_choices; reads = λ values. option_map Why (why_from values) }
+
 unfoldable pub commands : List CommandForm
-commands = build_form ∷ []
+commands = build_form ∷ why_form ∷ []
 
 -- the command that the words are, or what is wrong with them
 abbrev pub read_as : CommandForm → Option (List Setting) → Result Command WordFault

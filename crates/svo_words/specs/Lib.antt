@@ -16,3 +16,4 @@ pub mod Settings
 pub mod Steps
 pub mod Tables
 pub mod Values
+pub mod Why

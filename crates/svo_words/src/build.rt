@@ -39,7 +39,7 @@ pub(crate) fn build_from(values: &Values) -> Option<BuildWords>
 {
     Some(BuildWords {
         depth: values.number("depth")?,
-        origin: values.three_numbers("origin")?,
+        origin: values.numbers("origin")?,
         cell: values.number("cell")?,
     })
 }

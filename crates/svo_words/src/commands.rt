@@ -4,14 +4,16 @@ ghost use Rattle.std.specs.Prelude.{map};
 ghost use Rattle.std.specs.String.{string_bytes};
 ghost use Rattle.svo_words.specs.Build.{build_choices};
 ghost use Rattle.svo_words.specs.Steps.{settings_in};
-ghost use Rattle.svo_words.specs.Forms.{form_of, build_form, read_as};
+ghost use Rattle.svo_words.specs.Forms.{form_of, build_form, why_form, read_as};
 ghost use Rattle.svo_words.specs.Reading.{IsRead, AreValues};
+ghost use Rattle.svo_words.specs.Why.{why_choices};
 
 use crate::build::{BuildWords, build_choices, build_from};
 use crate::choices::Choice;
 use crate::form_test::is_in_form;
 use crate::matching::matches_of;
 use crate::values::Values;
+use crate::why::{WhyWords, why_choices, why_from};
 use std::alloc::Global;
 use svo_base::Words;
 use thiserror::Error;
@@ -20,6 +22,7 @@ use thiserror::Error;
 #[derive(Drop)]
 pub enum Command {
     Build(BuildWords),
+    Why(WhyWords),
 }
 
 /// Why words are no command.
@@ -49,6 +52,7 @@ pub fn read_words(alloc: Global, words: &Words) -> Result<Command, WordFault>
     }
     match words.get(0) {
         "build" => read_build(alloc, words.tail(1)),
+        "why" => read_why(alloc, words.tail(1)),
         _ => Err(WordFault::Command),
     }
 }
@@ -62,6 +66,18 @@ fn read_build(alloc: Global, words: &[String]) -> Result<Command, WordFault>
     match build_from(&values) {
         None => Err(WordFault::Value),
         Some(build) => Ok(Command::Build(build)),
+    }
+}
+
+/// The command `why` of the words after its name.
+fn read_why(alloc: Global, words: &[String]) -> Result<Command, WordFault>
+    ensures { IsRead (read_as why_form (settings_in why_choices (map string_bytes words.now))) result }
+{
+    let choices = why_choices();
+    let values = read_values(alloc, &choices, words)?;
+    match why_from(&values) {
+        None => Err(WordFault::Value),
+        Some(why) => Ok(Command::Why(why)),
     }
 }
 

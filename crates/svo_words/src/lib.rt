@@ -10,11 +10,13 @@ mod laws;
 mod matching;
 mod numbers;
 mod values;
+mod why;
 
 pub use build::BuildWords;
 pub use commands::{Command, WordFault, read_words};
 pub use kinds::{AxisWord, KindWord, Text};
 pub use laws::{one_meaning, one_spelling};
+pub use why::WhyWords;
 
 #[cfg(test)]
 mod tests;

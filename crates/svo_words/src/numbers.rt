@@ -18,14 +18,20 @@ pub fn number(text: &[u8]) -> Option<i64>
     }
 }
 
-/// Three numbers with commas between them.
-pub fn three_numbers(text: &[u8]) -> Option<[i64; 3]>
-    ensures { result ≡ numbers_of 3 text.now }
+/// So many numbers with commas between them.
+pub fn numbers<const N: usize>(text: &[u8]) -> Option<[i64; N]>
+    requires { 0 < N }
+    ensures { result ≡ numbers_of N text.now }
 {
-    let (x, rest) = number_before_comma(text)?;
-    let (y, rest) = number_before_comma(rest)?;
-    let z = number(rest)?;
-    Some([x, y, z])
+    let mut numbers = [0; N];
+    let mut rest = text;
+    for place in 0..N - 1 {
+        let (number, behind) = number_before_comma(rest)?;
+        numbers[place] = number;
+        rest = behind;
+    }
+    numbers[N - 1] = number(rest)?;
+    Some(numbers)
 }
 
 /// The number before the first comma, and the text after that comma.

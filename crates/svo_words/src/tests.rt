@@ -1,7 +1,7 @@
 use crate::choices::Choice;
 use crate::commands::read_values;
 use crate::values::Values;
-use crate::{AxisWord, BuildWords, Command, KindWord, Text, WordFault, read_words};
+use crate::{AxisWord, BuildWords, Command, KindWord, Text, WhyWords, WordFault, read_words};
 use std::alloc::{AllocError, Global};
 use svo_base::Words;
 
@@ -35,6 +35,30 @@ fn builds_are_read_in_any_order(rt: HostRuntime) {
         let list = words_of(rt.alloc(), words).expect(&rt, "memory");
         match read_words(rt.alloc(), &list) {
             Ok(Command::Build(build)) => assert!(rt; build == BUILT, "the values of {words:?}"),
+            Ok(_) => assert!(rt; false, "{words:?} are another command"),
+            Err(fault) => assert!(rt; false, "{words:?} are refused: {fault}"),
+        }
+    }
+}
+
+const ASKED: WhyWords = WhyWords {
+    triangle: [-1, 1, 1, 3, 1, 1, 3, 1, 1],
+    cube: [0, 0, -7, 2],
+};
+
+/// Ways to ask about one triangle and one cube.
+const WHYS: &[&[&str]] = &[
+    &["why", "--triangle=-1,1,1,3,1,1,3,1,1", "--cube=0,0,-7,2"],
+    &["why", "--cube", "0,0,-7,2", "--triangle=-1,1,1,3,1,1,3,1,1"],
+];
+
+#[test]
+fn questions_about_a_cube_are_read(rt: HostRuntime) {
+    for words in WHYS {
+        let list = words_of(rt.alloc(), words).expect(&rt, "memory");
+        match read_words(rt.alloc(), &list) {
+            Ok(Command::Why(why)) => assert!(rt; why == ASKED, "the values of {words:?}"),
+            Ok(_) => assert!(rt; false, "{words:?} are another command"),
             Err(fault) => assert!(rt; false, "{words:?} are refused: {fault}"),
         }
     }
@@ -95,6 +119,19 @@ const REFUSED: &[(&[&str], WordFault)] = &[
     ),
     (
         &["build", "--depth", "1", "--origin=0,0,0", "--cell==1"],
+        WordFault::Value,
+    ),
+    (&["why", "--cube=0,0,0,2"], WordFault::Options),
+    (
+        &["why", "--triangle=1,2,3,4,5,6,7,8", "--cube=0,0,0,2"],
+        WordFault::Value,
+    ),
+    (
+        &["why", "--triangle=1,2,3,4,5,6,7,8,9,0", "--cube=0,0,0,2"],
+        WordFault::Value,
+    ),
+    (
+        &["why", "--triangle=1,2,3,4,5,6,7,8,9", "--cube=0,0,0"],
         WordFault::Value,
     ),
 ];

@@ -1,12 +1,12 @@
 //! The values of a command's options.
 
-ghost use Rattle.std.specs.Prelude.{◌≡◌, option_map};
+ghost use Rattle.std.specs.Prelude.{◌≡◌, ◌<◌, option_map};
 ghost use Rattle.clap.specs.Matches.{found_of, first_value};
 ghost use Rattle.svo_words.specs.Seen.{values_of};
 ghost use Rattle.svo_words.specs.Values.{is_set, number_in, number_or, numbers_in, text_in, text_or, axis_in, kind_in};
 
 use crate::kinds::{AxisWord, KindWord, axis_of, kind_of, text_of};
-use crate::numbers::{number, three_numbers};
+use crate::numbers::{number, numbers};
 use clap::ArgMatches;
 
 /// The values of a command's options, each by its name.
@@ -56,12 +56,13 @@ impl<'a> Values<'a> {
         number(text.as_bytes())
     }
 
-    /// Three numbers with commas between them.
+    /// So many numbers with commas between them.
     #[tactic(auto, unfolding(crate::specs::Values::numbers_in))]
-    pub(crate) fn three_numbers(&self, name: &str) -> Option<[i64; 3]>
-        ensures { result ≡ numbers_in 3 (values_of self.now) name.now }
+    pub(crate) fn numbers<const N: usize>(&self, name: &str) -> Option<[i64; N]>
+        requires { 0 < N }
+        ensures { result ≡ numbers_in N (values_of self.now) name.now }
     {
-        three_numbers(self.value(name)?.as_bytes())
+        numbers(self.value(name)?.as_bytes())
     }
 
     /// The text of an option that stands.
