@@ -3,7 +3,10 @@ pub mod Causes
 pub mod Codes
 pub mod Endings
 pub mod Lines
+pub mod Obeying
 pub mod Planning
+pub mod Questions
 pub mod Ranges
 pub mod Reading
 pub mod Usage
+pub mod Why

@@ -11,7 +11,7 @@ use Rattle.svo_top.specs.declared.outcome.UsageKind.TheVariants.{Command, Option
 use Rattle.svo_top.specs.declared.outcome.InputKind.{InputKind}
 use Rattle.svo_top.specs.declared.outcome.InputKind.TheVariants.{NotPlain}
 use Rattle.svo_top.specs.declared.outcome.RangeFault.{RangeFault}
-use Rattle.svo_top.specs.declared.outcome.RangeFault.TheVariants.{Grid}
+use Rattle.svo_top.specs.declared.outcome.RangeFault.TheVariants.{Grid, Triangle, Cube}
 use Rattle.svo_top.specs.declared.outcome.Device.{Device as DeviceName}
 use Rattle.svo_top.specs.declared.outcome.Device.TheVariants.{Read, Write}
 
@@ -31,6 +31,8 @@ grid_word TooWide = codes "wide"
 
 abbrev pub range_word : RangeFault → List ℕ
 range_word (Grid fault) = grid_word fault
+range_word Triangle = codes "triangle"
+range_word Cube = codes "cube"
 
 abbrev pub device_word : DeviceName → List ℕ
 device_word Read = codes "read"

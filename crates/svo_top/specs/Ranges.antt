@@ -4,12 +4,16 @@ use Rattle.svo_base.specs.GridShape.{GridShape}
 use Rattle.svo_base.specs.GridLimits.{grid_from}
 use Rattle.svo_base.specs.declared.grids.GridFault.{GridFault}
 use Rattle.svo_words.specs.declared.commands.Command.{Command}
-use Rattle.svo_words.specs.declared.commands.Command.TheVariants.{Build}
+use Rattle.svo_words.specs.declared.commands.Command.TheVariants.{Build, Why}
 use Rattle.svo_words.specs.declared.build.BuildWords.{BuildWords}
+use Rattle.svo_words.specs.declared.why.WhyWords.{WhyWords}
+use Rattle.svo_base.specs.declared.shapes.Triangle.{Triangle as Shape}
+use Rattle.svo_base.specs.declared.shapes.Cube.{Cube as Box}
+use Rattle.svo_top.specs.Questions.{triangle_from, cube_from}
 use Rattle.svo_top.specs.declared.outcome.Status.{Status}
 use Rattle.svo_top.specs.declared.outcome.Status.TheVariants.{Range}
 use Rattle.svo_top.specs.declared.outcome.RangeFault.{RangeFault}
-use Rattle.svo_top.specs.declared.outcome.RangeFault.TheVariants.{Grid}
+use Rattle.svo_top.specs.declared.outcome.RangeFault.TheVariants.{Grid, Triangle, Cube}
 
 -- the grid that the words name, or its first broken limit
 abbrev pub grid_of_words : BuildWords → Result GridShape GridFault
@@ -19,11 +23,21 @@ abbrev pub fault_of_grid : Result GridShape GridFault → Option RangeFault
 fault_of_grid (Ok grid) = None
 fault_of_grid (Err fault) = Some (Grid fault)
 
+-- a question's triangle comes before its cube
+abbrev pub fault_of_shapes : Option Shape → Option Box → Option RangeFault
+fault_of_shapes None cube = Some Triangle
+fault_of_shapes (Some triangle) None = Some Cube
+fault_of_shapes (Some triangle) (Some cube) = None
+
+abbrev pub range_of_question : WhyWords → Option RangeFault
+range_of_question question = fault_of_shapes (triangle_from question.triangle) (cube_from question.cube)
+
 -- the first range that a number of the command is out of
 abbrev pub range_of : Command → Option RangeFault
 range_of (Build job) = fault_of_grid (grid_of_words job)
+range_of (Why question) = range_of_question question
 
--- a build stops for the first broken limit of its grid, and for no other range
-pub record RangeIs (grid : Result GridShape GridFault) (status : Status) : Type 0 where
-  pub comes : (fault : GridFault) → grid ≡ Err fault → status ≡ Range (Grid fault)
-  pub only : (fault : RangeFault) → status ≡ Range fault → fault_of_grid grid ≡ Some fault
+-- a command stops for this range, and for no other
+pub record RangeIs (range : Option RangeFault) (status : Status) : Type 0 where
+  pub comes : (fault : RangeFault) → range ≡ Some fault → status ≡ Range fault
+  pub only : (fault : RangeFault) → status ≡ Range fault → range ≡ Some fault

@@ -5,7 +5,7 @@ ghost use Rattle.dev_traits.specs.Change.{change_of};
 ghost use Rattle.svo_top.specs.Build.{BuildMeans};
 ghost use Rattle.svo_top.specs.Causes.{DeviceCause};
 ghost use Rattle.svo_top.specs.Endings.{status_of, EndsBuild};
-ghost use Rattle.svo_top.specs.Ranges.{RangeIs, grid_of_words};
+ghost use Rattle.svo_top.specs.Ranges.{RangeIs, fault_of_grid, grid_of_words};
 
 use crate::input_text::{TextStop, read_text};
 use crate::outcome::{Device, InputKind, RangeFault, Status};
@@ -25,7 +25,7 @@ pub fn build<I: ByteSource, O: ByteSink>(
     input: &mut I,
     out: &mut O,
 ) -> Ending
-    ensures range { RangeIs (grid_of_words job.now) (status_of result) }
+    ensures range { RangeIs (fault_of_grid (grid_of_words job.now)) (status_of result) }
     ensures ends { EndsBuild job.now
         (change_of I.rest I.faults input.old input.new)
         (change_of O.written O.faults out.old out.new) result }

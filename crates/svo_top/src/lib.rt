@@ -2,10 +2,12 @@
 #![tactic(auto)]
 
 mod building;
+mod explaining;
 mod filled_cells;
 mod input_text;
 mod outcome;
 mod planning;
+mod questions;
 mod reporting;
 mod running;
 
@@ -14,5 +16,7 @@ pub use running::run;
 
 #[cfg(test)]
 mod error_output_tests;
+#[cfg(test)]
+mod question_tests;
 #[cfg(test)]
 mod tests;

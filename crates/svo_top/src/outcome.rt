@@ -46,6 +46,10 @@ pub enum InputKind {
 pub enum RangeFault {
     /// A limit of the grid.
     Grid(GridFault),
+    /// A coordinate of the triangle has a size above 2^30.
+    Triangle,
+    /// A coordinate of the cube's lower corner has a size above 2^32, or its side is not from 1 to 2^32.
+    Cube,
 }
 
 /// Which device failed.

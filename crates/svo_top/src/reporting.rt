@@ -1,8 +1,8 @@
 //! The line on the error output.
 
-ghost use Rattle.std.specs.Prelude.{◌≡◌, ◌≤◌, ◌+◌, ◌++◌, length, codes, decimal};
+ghost use Rattle.std.specs.Prelude.{◌≡◌, [], ◌≤◌, ◌+◌, ◌++◌, length, codes, decimal};
 ghost use Rattle.arrayvec.specs.ArrayString.{array_string_len};
-ghost use Rattle.dev_traits.specs.Change.{change_of};
+ghost use Rattle.dev_traits.specs.Change.{change_of, IsKept};
 ghost use Rattle.svo_top.specs.Lines.{usage_word, input_word, grid_word, range_word, device_word, stop_line, built_line, Says};
 ghost use Rattle.svo_top.specs.Endings.{line_of, status_of};
 
@@ -31,6 +31,8 @@ pub struct Counts {
 pub enum Ending {
     /// A build is done.
     Built(Counts),
+    /// A question is answered, which has no line.
+    Answered,
     /// The command stopped.
     Stopped(Status),
 }
@@ -41,17 +43,21 @@ impl Ending {
         ensures { result ≡ status_of self.now }
     {
         match self {
-            Ending::Built(_) => Status::Done,
+            Ending::Built(_) | Ending::Answered => Status::Done,
             Ending::Stopped(status) => *status,
         }
     }
 }
 
-/// Puts out the line of an ending. A fault of the device changes nothing else.
+/// Puts out the line of an ending, if it has one. A fault of the device changes nothing else.
 pub fn report<E: ByteSink>(ending: &Ending, err: &mut E)
-    ensures { Says (change_of E.written E.faults err.old err.new) (line_of ending.now) }
+    ensures says { Says (change_of E.written E.faults err.old err.new) (line_of ending.now) }
+    ensures silent { line_of ending.now ≡ [] → IsKept (change_of E.written E.faults err.old err.new) }
 {
     let line = line_of(ending);
+    if line.is_empty() {
+        return;
+    }
     let _ = err.put(line.as_str().as_bytes());
 }
 
@@ -61,6 +67,7 @@ fn line_of(ending: &Ending) -> Line
 {
     match ending {
         Ending::Built(counts) => built_line(counts),
+        Ending::Answered => Line::new(),
         Ending::Stopped(status) => stop_line(status),
     }
 }
@@ -156,6 +163,8 @@ fn range_word(fault: RangeFault) -> &'static str
 {
     match fault {
         RangeFault::Grid(fault) => grid_word(fault),
+        RangeFault::Triangle => "triangle",
+        RangeFault::Cube => "cube",
     }
 }
 

@@ -2,19 +2,23 @@
 
 ghost use Rattle.std.specs.Prelude.{◌≡◌, Ok};
 ghost use Rattle.dev_traits.specs.Change.{change_of};
-ghost use Rattle.svo_top.specs.Build.{BuildRun, BuildMeans};
+ghost use Rattle.svo_top.specs.Build.{BuildRun};
 ghost use Rattle.svo_top.specs.Causes.{UsageCauses, RangeCauses, DeviceCause, KeepsInput, KeepsOutput, SaysWhy};
-ghost use Rattle.svo_top.specs.Endings.{status_of, EndsBuild};
+ghost use Rattle.svo_top.specs.Endings.{status_of};
+ghost use Rattle.svo_top.specs.Obeying.{Obeys, Stops};
+ghost use Rattle.svo_top.specs.Ranges.{range_of};
 ghost use Rattle.svo_top.specs.Usage.{status_of_fault};
+ghost use Rattle.svo_top.specs.Why.{WhyRun};
 ghost use Rattle.svo_words.specs.Meaning.{Means};
 
 use crate::building::build;
+use crate::explaining::explain;
 use crate::outcome::{Device, Status, UsageKind};
 use crate::reporting::{Ending, report};
 use dev_traits::{ByteSink, ByteSource};
 use std::alloc::Global;
 use svo_base::Words;
-use svo_words::{BuildWords, Command, WordFault, read_words};
+use svo_words::{BuildWords, Command, WhyWords, WordFault, read_words};
 
 /// Runs the command that the words are, over an input, an output, and an output for the one line that
 /// says how the run ended.
@@ -40,6 +44,10 @@ pub fn run<I: ByteSource, O: ByteSink, E: ByteSink>(
         (change_of I.rest I.faults input.old input.new)
         (change_of O.written O.faults out.old out.new)
         (change_of E.written E.faults err.old err.new) result }
+    ensures why { (question : WhyWords) → Means words.now (Ok (Command.Why question)) → WhyRun question
+        (change_of I.rest I.faults input.old input.new)
+        (change_of O.written O.faults out.old out.new)
+        (change_of E.written E.faults err.old err.new) result }
 
     // What a run that stops leaves as it was, and what it says.
     ensures keeps_input { KeepsInput words.now (change_of I.rest I.faults input.old input.new) }
@@ -62,21 +70,37 @@ fn carry_out<I: ByteSource, O: ByteSink>(
     ensures range { RangeCauses words.now (status_of result) }
     ensures read { DeviceCause Device.Read (change_of I.rest I.faults input.old input.new) (status_of result) }
     ensures write { DeviceCause Device.Write (change_of O.written O.faults out.old out.new) (status_of result) }
-    ensures build { (job : BuildWords) → Means words.now (Ok (Command.Build job)) → BuildMeans job
-        (change_of I.rest I.faults input.old input.new)
-        (change_of O.written O.faults out.old out.new) (status_of result) }
-    ensures ends { (job : BuildWords) → Means words.now (Ok (Command.Build job)) → EndsBuild job
+    ensures obeys { (command : Command) → Means words.now (Ok command) → Obeys command
         (change_of I.rest I.faults input.old input.new)
         (change_of O.written O.faults out.old out.new) result }
     ensures keeps_input { KeepsInput words.now (change_of I.rest I.faults input.old input.new) }
     ensures keeps_output { KeepsOutput words.now (change_of O.written O.faults out.old out.new) (status_of result) }
 {
-    let command = match read_words(alloc, words) {
-        Err(fault) => return Ending::Stopped(status_of_fault(fault)),
-        Ok(command) => command,
-    };
+    match read_words(alloc, words) {
+        Err(fault) => Ending::Stopped(status_of_fault(fault)),
+        Ok(command) => obey(alloc, &command, input, out),
+    }
+}
+
+/// Carries out a command.
+fn obey<I: ByteSource, O: ByteSink>(
+    alloc: Global,
+    command: &Command,
+    input: &mut I,
+    out: &mut O,
+) -> Ending
+    ensures stops { Stops (range_of command.now)
+        (change_of I.rest I.faults input.old input.new)
+        (change_of O.written O.faults out.old out.new) (status_of result) }
+    ensures obeys { Obeys command.now
+        (change_of I.rest I.faults input.old input.new)
+        (change_of O.written O.faults out.old out.new) result }
+    ensures read { DeviceCause Device.Read (change_of I.rest I.faults input.old input.new) (status_of result) }
+    ensures write { DeviceCause Device.Write (change_of O.written O.faults out.old out.new) (status_of result) }
+{
     match command {
-        Command::Build(job) => build(alloc, &job, input, out),
+        Command::Build(job) => build(alloc, job, input, out),
+        Command::Why(question) => explain(question, out),
     }
 }
 
