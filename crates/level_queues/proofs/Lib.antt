@@ -10,4 +10,5 @@ pub mod Leaving
 pub mod Bounds
 pub mod Turns
 pub mod PushedCells
+pub mod Ending
 pub mod Digits

@@ -5,7 +5,7 @@ ghost use Rattle.std.specs.Prelude.{◌≡◌, ◌+◌, ◌-◌, ◌*◌, ◌/�
 use crate::codes::{ancestor, turning_height};
 use crate::entries::write_entries;
 use dev_traits::{ByteSink, Failed};
-use node_file::NodeWriter;
+use node_file::{NodeWriter, Totals};
 use room_plan::{QueueEntry, Queues};
 use std::sync::ledger::Ledger;
 use svo_base::Steps;
@@ -42,6 +42,7 @@ impl<'a> LevelQueues<'a> {
     ghost use Rattle.node_file.specs.Writing.{given};
     ghost use Rattle.level_queues.specs.GivenWords.{with_words, words_in};
     ghost use Rattle.octree_specs.specs.Cells.{Cell};
+    ghost use Rattle.octree_specs.specs.Formats.{file_words};
     ghost use Rattle.octree_specs.specs.Octree.{Leaf};
     ghost use Rattle.level_queues.specs.Queued.{queue_of, bits_of};
     ghost use Rattle.level_queues.specs.Pushed.{IsQueuedAt, IsQueued, lowest_of, GoesOn};
@@ -98,6 +99,38 @@ impl<'a> LevelQueues<'a> {
         self.close_below(target, writer, moves)?;
         self.put_cell(code, face, moves);
         Ok(())
+    }
+
+    /// Gives the words that still wait and the root's word, and answers how many words there are in
+    /// all, and how many cells were pushed: the words added since `new` are those of the file of
+    /// format 2 of the pushed cells. It is refused only where the writer's sink counted a fault.
+    ///
+    /// The conditions are those of `push`. Afterwards the queues are only dropped.
+    pub fn finish<O: ByteSink, L: Ledger>(
+        &mut self,
+        writer: &mut NodeWriter<'_, O>,
+        moves: &mut Steps<L>,
+    ) -> Result<Totals, Failed>
+        requires queued { (cells : List Cell) × (words : List ℕ) × IsQueued cells self.old words }
+        requires records { writer.old.records ≡ self.old.words }
+        ensures words { OnOk result ((cells : List Cell) → (words : List ℕ) → IsQueued cells self.old words
+            → GoesOn words (given writer.old) (given writer.new) (λ all. all ≡ file_words 2 self.old.depth cells)) }
+        ensures totals { IfOk result (λ totals. (cells : List Cell) → (words : List ℕ) → IsQueued cells self.old words
+            → totals ≡ record { records = length (file_words 2 self.old.depth cells); cells = length cells }) }
+        ensures records { IfOk result (λ totals. writer.new.records ≡ totals.records) }
+        ensures sink { writer.new.sink.ghost_name ≡ writer.old.sink.ghost_name }
+        ensures placed { self.new.queues.placed ≤ self.old.queues.placed + self.old.depth }
+        ensures moves { moves.new ≤ moves.old + self.old.depth }
+        ensures cause { HasCause (O.faults writer.old.sink.now) (O.faults writer.new.sink.now) result }
+    {
+        let top = self.depth - 1;
+        self.close_below(top, writer, moves)?;
+        let root = self.write_row(top, writer)?;
+        writer.add(root)?;
+        Ok(Totals {
+            records: self.words + 1,
+            cells: self.cells,
+        })
     }
 
     /// The height below which nothing waits between two pushes.

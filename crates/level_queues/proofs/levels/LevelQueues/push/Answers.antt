@@ -7,7 +7,7 @@ use Rattle.octree_specs.specs.Octree.{Leaf}
 use Rattle.node_file.specs.Writing.{given}
 use Rattle.level_queues.specs.Pushed.{IsQueuedAt, IsQueued, lowest_of}
 use Rattle.level_queues.proofs.Onward.{goes_nowhere, goes_further}
-use Rattle.level_queues.proofs.Turns.{AreRows}
+use Rattle.level_queues.proofs.Turns.{AreRows, are_rows}
 use Rattle.level_queues.proofs.PushedCells.{IsBehind, face_leaves-more, lowest_later, room_pushed, put_pushed}
 use Rattle.level_queues.proofs.levels.LevelQueues.push.Goals as goal
 
@@ -18,7 +18,7 @@ pub put_cell-requires-clause-room : goal.put_cell-requires-clause-room
 put_cell-requires-clause-room g c =
     let after = c.close_below.new.self in
     let target : ℕ = c.target-target.result in
-    let are : AreRows after.depth after.queues.entries after.counts = record { shallow = after.most; room = after.room; wide = after.wide; rows = after.rows } in
+    let are : AreRows after.depth after.queues.entries after.counts = are_rows after in
     let leaves : List Leaf = face_leaves c.requires.queued.0 in
     let on = c.in_ok-close_below.ensures.queued leaves c.requires.queued.1 c.requires.queued.2 in
     let behind : IsBehind after.cells after.last c.args.code target =
@@ -33,7 +33,7 @@ returns-clause-queued g c = λ cells words is.
     let target : ℕ = c.target-target.result in
     let cell : Cell = record { code = c.args.code; face = c.args.face } in
     let leaf : Leaf = record { node = c.args.code; word = 1 + 256 * c.args.face } in
-    let are : AreRows after.depth after.queues.entries after.counts = record { shallow = after.most; room = after.room; wide = after.wide; rows = after.rows } in
+    let are : AreRows after.depth after.queues.entries after.counts = are_rows after in
     let behind : IsBehind after.cells after.last c.args.code target =
     rw (c.close_below.ensures.cells, c.close_below.ensures.last) (record { later = c.requires.after; same = c.target-target.ensures.same; apart = c.target-target.ensures.apart }) in
     goes_further words (given c.args.writer.now) (given c.close_below.new.writer) (given c.close_below.new.writer) (IsQueuedAt (face_leaves cells) target after) (IsQueued (cells ++ cell ∷ []) pushed)
