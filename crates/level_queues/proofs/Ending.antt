@@ -27,8 +27,12 @@ module _ (depth : ℕ) (entries : List QueueEntry) (counts : List ℕ) (are : Ar
 
   pub count_words : length (file_words 2 depth cells) ≡ length words + get_or counts top 0 + 1
   count_words =
-      omega (arith, ap length (sym last_words), length-append (words ++ words_in (queue_of entries counts top)) ((bits_of (queue_of entries counts top) + 256 * length words) ∷ []),
-      length-queue depth entries counts are words top (omega (arith, high)))
+      omega (
+        arith,
+        ap length (sym last_words),
+        length-append (words ++ words_in (queue_of entries counts top)) ((bits_of (queue_of entries counts top) + 256 * length words) ∷ []),
+        length-queue depth entries counts are words top (omega (arith, high)),
+      )
 
   -- they are given in two calls
   pub goes_to_root : (before middle after : Option (List ℕ)) (word : ℕ) → word ≡ bits_of (queue_of entries counts top) + 256 * length words

@@ -11,4 +11,6 @@ pub mod Bounds
 pub mod Turns
 pub mod PushedCells
 pub mod Ending
+pub mod WholeFile
+pub mod PairedCells
 pub mod Digits

@@ -45,8 +45,13 @@ returns-clause-totals g c = λ cells words is.
     let deep : after.depth ≡ now.depth = c.close_below.ensures.depth in
     let on = c.in_ok-close_below.ensures.queued (face_leaves cells) words is in
     let records : c.write_row.new.self.words + 1 ≡ length (file_words 2 now.depth cells) =
-    omega (arith, c.in_ok-root.ensures.words, on.holds.count, ap (λ depth. length (file_words 2 depth cells)) deep,
-    count_words after.depth after.queues.entries after.counts are cells top after.last (words ++ on.more) (omega (arith, deep, now.least)) after.inside on.holds.queued) in
+    omega (
+      arith,
+      c.in_ok-root.ensures.words,
+      on.holds.count,
+      ap (λ depth. length (file_words 2 depth cells)) deep,
+      count_words after.depth after.queues.entries after.counts are cells top after.last (words ++ on.more) (omega (arith, deep, now.least)) after.inside on.holds.queued,
+    ) in
     let many : length (face_leaves cells) ≡ length cells = length-map cells (λ (cell : Cell). record { node = cell.code; word = 1 + 256 * cell.face }) in
     let count : c.write_row.new.self.cells ≡ length cells =
     omega (arith, c.write_row.ensures.cells, on.holds.cells, many) in
