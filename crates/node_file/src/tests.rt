@@ -171,7 +171,7 @@ fn a_file_is_put_in_blocks_and_cut_off_at_a_fault(rt: HostRuntime) {
 /// The grid of a header whose byte at a place is changed by these bits, where it was that of this
 /// depth, origin and cell.
 fn changed_grid(at: usize, bits: u8) -> Option<Grid> {
-    let shift = 8 * (at as u32 % 8);
+    let shift = 8 * (at % 8) as u32;
     let change = (u64::from(bits) << shift).cast_signed();
     let (depth, [x, y, z], cell) = NUMBERS;
     match at / 8 {
@@ -217,7 +217,7 @@ fn headers_are_read_back(rt: HostRuntime) {
 
 /// The numbers of a trailer whose byte at a place is changed by these bits.
 fn changed_totals(at: usize, bits: u8) -> Option<Totals> {
-    let change = u64::from(bits) << (8 * (at as u32 % 8));
+    let change = u64::from(bits) << (8 * (at % 8) as u32);
     let Totals { records, cells } = TOTALS;
     match at / 8 {
         1 => Some(Totals {
