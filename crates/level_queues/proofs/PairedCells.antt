@@ -1,5 +1,5 @@
 -- Cells as pairs of a code and a face.
-use Rattle.std.proofs.Common.{◌≡◌, ℕ, suc, ◌+◌, ◌*◌, ◌<◌, ◌≤◌, List, [], ◌∷◌, ◌++◌, length, map, take, get_or, ap, ◌∙◌, arith, sym, mul-le-mul_left, mul-le-mul_right}
+use Rattle.std.proofs.Common.{◌≡◌, ℕ, ◌+◌, ◌<◌, List, [], ◌∷◌, ◌++◌, length, map, take, get_or, ap, ◌∙◌, sym}
 use Rattle.std.proofs.lemmas.List.{map-append, take_more}
 use Rattle.octree_specs.specs.Cells.{Cell}
 

@@ -1,5 +1,5 @@
 -- All that the cell leaves is closed, and the lowest queue has room for the cell.
-use Rattle.std.proofs.Common.{◌≡◌, ◌-◌, ◌+◌, ◌*◌, ◌==◌, cond, ◌++◌, ◌∷◌, List, [], ℕ, length, ap, ◌∙◌, arith}
+use Rattle.std.proofs.Common.{◌-◌, ◌+◌, ◌*◌, ◌==◌, cond, ◌++◌, ◌∷◌, List, [], ℕ, length, ap, ◌∙◌, arith}
 use Rattle.std.proofs.lemmas.List.{length-append}
 use Rattle.octree_specs.specs.Cells.{Cell}
 use Rattle.octree_specs.specs.Formats.{face_leaves}
