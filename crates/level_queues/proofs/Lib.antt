@@ -10,6 +10,7 @@ pub mod Leaving
 pub mod Bounds
 pub mod Turns
 pub mod PushedCells
+pub mod Continuing
 pub mod Ending
 pub mod WholeFile
 pub mod PairedCells
