@@ -1,8 +1,8 @@
 -- The words given so far are a front of those of the file, whatever cells still come.
-use Rattle.std.proofs.Common.{◌≡◌, ◌≢◌, ℕ, zero, suc, ◌+◌, ◌-◌, ◌*◌, ◌/◌, ◌^◌, ◌<◌, ◌≤◌, ◌==◌, cond, true, false, List, [], ◌∷◌, ◌++◌, length, refl, sym, ap, ◌∙◌, subst, inl, inr, arith, append-nil, append_assoc}
+use Rattle.std.proofs.Common.{◌≡◌, ◌≢◌, ℕ, zero, suc, ◌+◌, ◌-◌, ◌*◌, ◌/◌, ◌^◌, ◌<◌, ◌≤◌, ◌==◌, cond, List, [], ◌∷◌, ◌++◌, length, refl, sym, ap, ◌∙◌, subst, inl, inr, arith, append-nil, append_assoc}
 use Rattle.std.proofs.Math.Nat.{div-eq_of_lt}
 use Rattle.std.proofs.lemmas.Bool.{cases_eq, eq-eqb, ne_eqb}
-use Rattle.octree_specs.specs.Octree.{Leaf, is_nonempty, words_of}
+use Rattle.octree_specs.specs.Octree.{Leaf, words_of}
 use Rattle.room_plan.specs.declared.queues.QueueEntry.{QueueEntry}
 use Rattle.level_queues.specs.GivenWords.{words_in}
 use Rattle.level_queues.specs.Queued.{AreQueued, bits_of}
