@@ -21,6 +21,12 @@ eights_rise n (suc more) =
     let e : n + suc more ≡ suc (n + more) = omega arith in
     omega (arith, eights_rise n more, ap (λ k. 8 ^ k) e, pow-suc 8 (n + more))
 
+-- as many cells as numbers up to the last
+pub cells-few : (depth last cells : ℕ) → depth ≤ 12 → last < 8 ^ depth → cells ≤ last + 1 → cells ≤ 2 ^ 36
+cells-few depth last cells shallow inside few =
+    let e : depth + (12 - depth) ≡ 12 = omega (arith, shallow) in
+    omega (arith, inside, few, eights_rise depth (12 - depth), ap (λ n. 8 ^ n) e)
+
 -- words below some nodes of a height
 few_below : (leaves : List Leaf) (height : ℕ) (nodes : List ℕ) → 7 * sum_by (size_of leaves height) nodes ≤ length nodes * 8 ^ suc height
 few_below leaves height [] = omega arith

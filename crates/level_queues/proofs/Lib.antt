@@ -10,4 +10,8 @@ pub mod Leaving
 pub mod Bounds
 pub mod Turns
 pub mod PushedCells
+pub mod Continuing
+pub mod Ending
+pub mod WholeFile
+pub mod PairedCells
 pub mod Digits

@@ -6,6 +6,7 @@ use Rattle.octree_specs.specs.Octree.{Leaf, is_nonempty}
 use Rattle.room_plan.specs.declared.queues.QueueEntry.{QueueEntry}
 use Rattle.level_queues.specs.GivenWords.{words_in}
 use Rattle.level_queues.specs.Queued.{AreQueued, queue_of, bits_of}
+use Rattle.level_queues.specs.declared.levels.LevelQueues.{LevelQueues}
 use Rattle.level_queues.proofs.Closing.{IsClosed, close_queue}
 use Rattle.level_queues.proofs.Bounds.{words-few, room_above, room_reached}
 use Rattle.level_queues.proofs.Pushing.{reach_leaf, push_leaf}
@@ -17,6 +18,9 @@ pub record AreRows (depth : ℕ) (entries : List QueueEntry) (counts : List ℕ)
   pub room : length entries ≡ 8 * depth
   pub wide : length counts ≡ 12
   pub rows : (k : ℕ) → get_or counts k 0 ≤ 8
+
+pub are_rows : (queues : LevelQueues) → AreRows queues.depth queues.queues.entries queues.counts
+are_rows queues = record { shallow = queues.most; room = queues.room; wide = queues.wide; rows = queues.rows }
 
 module _ (depth : ℕ) (entries : List QueueEntry) (counts : List ℕ) (are : AreRows depth entries counts) where
   pub row_long : (height : ℕ) → height < depth → length (queue_of entries counts height) ≡ get_or counts height 0

@@ -5,7 +5,7 @@ ghost use Rattle.std.specs.Prelude.{◌≡◌, ◌+◌, ◌-◌, ◌*◌, ◌/�
 use crate::codes::{ancestor, turning_height};
 use crate::entries::write_entries;
 use dev_traits::{ByteSink, Failed};
-use node_file::NodeWriter;
+use node_file::{NodeWriter, Totals};
 use room_plan::{QueueEntry, Queues};
 use std::sync::ledger::Ledger;
 use svo_base::Steps;
@@ -41,6 +41,8 @@ impl<'a> LevelQueues<'a> {
     ghost use Rattle.dev_traits.specs.Faults.{HasCause};
     ghost use Rattle.node_file.specs.Writing.{given};
     ghost use Rattle.level_queues.specs.GivenWords.{with_words, words_in};
+    ghost use Rattle.octree_specs.specs.Cells.{Cell};
+    ghost use Rattle.octree_specs.specs.Formats.{file_words};
     ghost use Rattle.octree_specs.specs.Octree.{Leaf};
     ghost use Rattle.level_queues.specs.Queued.{queue_of, bits_of};
     ghost use Rattle.level_queues.specs.Pushed.{IsQueuedAt, IsQueued, lowest_of, GoesOn};
@@ -62,6 +64,73 @@ impl<'a> LevelQueues<'a> {
             cells: 0,
             words: 0,
         }
+    }
+
+    /// Puts a filled cell with its face behind those before. The words of each level that it leaves
+    /// are given to the writer, and the numbers of moves by `moves` and by `placed` are at most the
+    /// depth. It is refused only where the writer's sink counted a fault.
+    ///
+    /// Cells come in ascending order, nothing failed before, and the writer was given no other word
+    /// than these queues gave it.
+    pub fn push<O: ByteSink, L: Ledger>(
+        &mut self,
+        code: u64,
+        face: u32,
+        writer: &mut NodeWriter<'_, O>,
+        moves: &mut Steps<L>,
+    ) -> Result<(), Failed>
+        requires inside { code < 8 ^ self.old.depth }
+        requires after { 0 < self.old.cells → self.old.last < code }
+        requires face { face ≤ 2 ^ 32 - 2 }
+        requires queued { (cells : List Cell) × (words : List ℕ) × IsQueued cells self.old words }
+        requires records { writer.old.records ≡ self.old.words }
+        ensures queued { OnOk result ((cells : List Cell) → (words : List ℕ) → IsQueued cells self.old words
+            → GoesOn words (given writer.old) (given writer.new) (IsQueued (cells ++ record { code = code; face = face } ∷ []) self.new)) }
+        ensures records { OnOk result (writer.new.records ≡ self.new.words) }
+        ensures sink { writer.new.sink.ghost_name ≡ writer.old.sink.ghost_name }
+        ensures depth { self.new.depth ≡ self.old.depth }
+        ensures last { OnOk result (self.new.last ≡ code) }
+        ensures cells { OnOk result (self.new.cells ≡ self.old.cells + 1) }
+        ensures placed { self.new.queues.placed ≤ self.old.queues.placed + self.old.depth }
+        ensures moves { moves.new ≤ moves.old + self.old.depth }
+        ensures cause { HasCause (O.faults writer.old.sink.now) (O.faults writer.new.sink.now) result }
+    {
+        let target = self.target(code);
+        self.close_below(target, writer, moves)?;
+        self.put_cell(code, face, moves);
+        Ok(())
+    }
+
+    /// Gives the words that still wait and the root's word, and answers how many words there are in
+    /// all, and how many cells were pushed: the words added since `new` are those of the file of
+    /// format 2 of the pushed cells. It is refused only where the writer's sink counted a fault.
+    ///
+    /// The conditions are those of `push`. Afterwards the queues are only dropped.
+    pub fn finish<O: ByteSink, L: Ledger>(
+        &mut self,
+        writer: &mut NodeWriter<'_, O>,
+        moves: &mut Steps<L>,
+    ) -> Result<Totals, Failed>
+        requires queued { (cells : List Cell) × (words : List ℕ) × IsQueued cells self.old words }
+        requires records { writer.old.records ≡ self.old.words }
+        ensures words { OnOk result ((cells : List Cell) → (words : List ℕ) → IsQueued cells self.old words
+            → GoesOn words (given writer.old) (given writer.new) (λ all. all ≡ file_words 2 self.old.depth cells)) }
+        ensures totals { IfOk result (λ totals. (cells : List Cell) → (words : List ℕ) → IsQueued cells self.old words
+            → totals ≡ record { records = length (file_words 2 self.old.depth cells); cells = length cells }) }
+        ensures records { IfOk result (λ totals. writer.new.records ≡ totals.records) }
+        ensures sink { writer.new.sink.ghost_name ≡ writer.old.sink.ghost_name }
+        ensures placed { self.new.queues.placed ≤ self.old.queues.placed + self.old.depth }
+        ensures moves { moves.new ≤ moves.old + self.old.depth }
+        ensures cause { HasCause (O.faults writer.old.sink.now) (O.faults writer.new.sink.now) result }
+    {
+        let top = self.depth - 1;
+        self.close_below(top, writer, moves)?;
+        let root = self.write_row(top, writer)?;
+        writer.add(root)?;
+        Ok(Totals {
+            records: self.words + 1,
+            cells: self.cells,
+        })
     }
 
     /// The height below which nothing waits between two pushes.
@@ -168,6 +237,26 @@ impl<'a> LevelQueues<'a> {
         self.words += count as u64;
         self.counts[row] = 0;
         Ok(word)
+    }
+
+    /// Places the entry of a cell in the lowest queue.
+    fn put_cell<L: Ledger>(&mut self, code: u64, face: u32, moves: &mut Steps<L>)
+        requires inside { code < 8 ^ self.old.depth }
+        requires after { 0 < self.old.cells → self.old.last < code }
+        requires room { slice_index_or self.old.counts 0 0 < 8 }
+        ensures entries { self.new.queues.entries ≡ slice_set self.old.queues.entries (8 * 0 + slice_index_or self.old.counts 0 0) (record { word = 1 + 256 * face; state = code }) }
+        ensures placed { self.new.queues.placed ≤ self.old.queues.placed + 1 }
+        ensures counts { self.new.counts ≡ slice_set self.old.counts 0 (slice_index_or self.old.counts 0 0 + 1) }
+        ensures depth { self.new.depth ≡ self.old.depth }
+        ensures last { self.new.last ≡ code }
+        ensures cells { self.new.cells ≡ self.old.cells + 1 }
+        ensures words { self.new.words ≡ self.old.words }
+        ensures moves { moves.new ≡ moves.old + 1 }
+    {
+        let word = 1 + 256 * u64::from(face);
+        self.put(0, QueueEntry { word, state: code }, moves);
+        self.last = code;
+        self.cells += 1;
     }
 
     /// Places an entry behind those of a height's queue.

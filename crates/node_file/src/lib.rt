@@ -2,10 +2,12 @@
 #![tactic(auto)]
 
 mod blocks;
+mod framing;
 mod layout;
 mod records;
 mod writer;
 
+pub use framing::{read_format, read_header, read_trailer};
 pub use layout::{header_bytes, trailer_bytes};
 pub use records::{Records, Totals};
 pub use writer::NodeWriter;

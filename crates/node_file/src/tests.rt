@@ -7,7 +7,10 @@ ghost use Rattle.octree_specs.specs.OctreeFile.{frame_of};
 ghost use Rattle.std.specs.Io.KnownBytes.{append_known};
 ghost use Rattle.svo_base.specs.GridShape.{IsGrid};
 
-use crate::{NodeWriter, Records, Totals, header_bytes, trailer_bytes};
+use crate::{
+    NodeWriter, Records, Totals, header_bytes, read_format, read_header, read_trailer,
+    trailer_bytes,
+};
 use dev_traits::{ByteSink, Failed, MemSink, PartFail};
 use std::marker::Brand;
 use std::sync::ledger::{Blank, Ledger};
@@ -161,6 +164,95 @@ fn a_file_is_put_in_blocks_and_cut_off_at_a_fault(rt: HostRuntime) {
                 written.len() == TWO_WORDS.len(),
                 "the whole file"
             );
+        }
+    }
+}
+
+/// The grid of a header whose byte at a place is changed by these bits, where it was that of this
+/// depth, origin and cell.
+fn changed_grid(at: usize, bits: u8) -> Option<Grid> {
+    let shift = 8 * (at % 8) as u32;
+    let change = (u64::from(bits) << shift).cast_signed();
+    let (depth, [x, y, z], cell) = NUMBERS;
+    match at / 8 {
+        0 => None,
+        1 if at < 12 => Grid::new(depth ^ change, [x, y, z], cell).ok(),
+        1 => None,
+        2 => Grid::new(depth, [x ^ change, y, z], cell).ok(),
+        3 => Grid::new(depth, [x, y ^ change, z], cell).ok(),
+        4 => Grid::new(depth, [x, y, z ^ change], cell).ok(),
+        _ => Grid::new(depth, [x, y, z], cell ^ change).ok(),
+    }
+}
+
+const NUMBERS: (i64, [i64; 3], i64) = (3, [5, -2, 1 << 29], 7);
+
+/// Bits of which a byte is changed.
+const CHANGES: [u8; 4] = [1, 4, 128, 255];
+
+#[test]
+fn headers_are_read_back(rt: HostRuntime) {
+    let (depth, origin, cell) = NUMBERS;
+    let grid = Grid::new(depth, origin, cell).expect(&rt, "a grid");
+    for (name, format) in [(b'1', 1), (b'2', 2)] {
+        let mut bytes = header_bytes(&grid);
+        bytes[7] = name;
+        assert_eq!(rt; read_header(&bytes), Some(grid), "format {format}");
+        assert_eq!(rt; read_format(&bytes), Some(format), "format {format}");
+        for at in 0..48 {
+            for bits in CHANGES {
+                let mut changed = bytes;
+                changed[at] ^= bits;
+                let expected = changed_grid(at, bits);
+                assert_eq!(rt; read_header(&changed), expected, "byte {at} by {bits}");
+                assert_eq!(rt;
+                    read_format(&changed),
+                    expected.map(|_| format),
+                    "byte {at} by {bits}"
+                );
+            }
+        }
+    }
+}
+
+/// The numbers of a trailer whose byte at a place is changed by these bits.
+fn changed_totals(at: usize, bits: u8) -> Option<Totals> {
+    let change = u64::from(bits) << (8 * (at % 8) as u32);
+    let Totals { records, cells } = TOTALS;
+    match at / 8 {
+        1 => Some(Totals {
+            records: records ^ change,
+            cells,
+        }),
+        2 => Some(Totals {
+            records,
+            cells: cells ^ change,
+        }),
+        _ => None,
+    }
+}
+
+const TOTALS: Totals = Totals {
+    records: 1 << 40,
+    cells: 513,
+};
+
+#[test]
+fn trailers_are_read_back(rt: HostRuntime) {
+    for name in *b"12" {
+        let mut bytes = trailer_bytes(TOTALS.records, TOTALS.cells);
+        bytes[31] = name;
+        assert_eq!(rt; read_trailer(&bytes), Some(TOTALS), "format {name}");
+        for at in 0..32 {
+            for bits in CHANGES {
+                let mut changed = bytes;
+                changed[at] ^= bits;
+                assert_eq!(rt;
+                    read_trailer(&changed),
+                    changed_totals(at, bits),
+                    "byte {at} by {bits}"
+                );
+            }
         }
     }
 }

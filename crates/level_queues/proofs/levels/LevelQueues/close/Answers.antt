@@ -2,20 +2,20 @@
 use Rattle.std.proofs.Common.{ℕ, ◌+◌, ◌*◌, ◌/◌, ◌^◌, ◌<◌, get_or, set, ap, ◌∙◌, arith, add-one}
 use Rattle.level_queues.specs.GivenWords.{words_in}
 use Rattle.level_queues.specs.Queued.{queue_of, bits_of}
-use Rattle.level_queues.proofs.Turns.{AreRows, few_given, room_next, close_fields, length-queue}
+use Rattle.level_queues.proofs.Turns.{AreRows, are_rows, few_given, room_next, close_fields, length-queue}
 use Rattle.level_queues.proofs.levels.LevelQueues.close.Goals as goal
 
 pub write_row-requires-clause-few : goal.write_row-requires-clause-few
 write_row-requires-clause-few g c =
     let now = c.args.self.now in
-    let are : AreRows now.depth now.queues.entries now.counts = record { shallow = now.most; room = now.room; wide = now.wide; rows = now.rows } in
+    let are : AreRows now.depth now.queues.entries now.counts = are_rows now in
     let low : c.args.height < now.depth = omega (arith, c.requires.height) in
     omega (arith, c.requires.queued.2.count, few_given now.depth now.queues.entries now.counts are c.requires.queued.0 c.args.height now.last c.requires.queued.1 low c.requires.queued.2.queued)
 
 pub put-requires-clause-room : goal.put-requires-clause-room
 put-requires-clause-room g c =
     let now = c.args.self.now in
-    let are : AreRows now.depth now.queues.entries now.counts = record { shallow = now.most; room = now.room; wide = now.wide; rows = now.rows } in
+    let are : AreRows now.depth now.queues.entries now.counts = are_rows now in
     let room : get_or (set now.counts c.args.height 0) (c.args.height + 1) 0 < 8 =
     room_next now.depth now.queues.entries now.counts are c.requires.queued.0 c.args.height now.last c.requires.queued.1 c.requires.height c.requires.queued.2.queued in
     omega (arith, room, ap (λ counts. get_or counts (c.args.height + 1) 0) c.in_ok-word.ensures.counts)
@@ -23,7 +23,7 @@ put-requires-clause-room g c =
 pub returns-clause-queued : goal.returns-clause-queued
 returns-clause-queued g c = λ leaves words is.
     let now = c.args.self.now in
-    let are : AreRows now.depth now.queues.entries now.counts = record { shallow = now.most; room = now.room; wide = now.wide; rows = now.rows } in
+    let are : AreRows now.depth now.queues.entries now.counts = are_rows now in
     let height : ℕ = c.args.height in
     record {
       more = words_in (queue_of now.queues.entries now.counts height);
