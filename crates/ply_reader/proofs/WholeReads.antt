@@ -1,5 +1,5 @@
 -- What the text means, by what a reader that began at its start gave.
-use Rattle.std.proofs.Common.{◌≡◌, ℕ, ◌+◌, ◌-◌, ◌≤◌, List, [], ◌++◌, length, arith, refl, sym, ap, ◌∙◌, subst, Option, None, Some, IfSome, Result, Ok, Err, MatchResult, length-append}
+use Rattle.std.proofs.Common.{◌≡◌, ℕ, ◌+◌, ◌-◌, ◌≤◌, List, [], ◌++◌, length, arith, sym, ap, ◌∙◌, subst, Option, None, Some, IfSome, Result, Ok, Err, MatchResult, length-append}
 use Rattle.std.proofs.lemmas.List.{nil_from_length}
 use Rattle.dev_traits.specs.declared.device.ByteSource.{Ghosts}
 use Rattle.dev_traits.specs.Faults.{Rose}
@@ -14,9 +14,9 @@ use Rattle.ply_reader.specs.declared.scales.Scale.{Scale}
 use Rattle.ply_reader.specs.declared.whole_mesh.MeshFault.{MeshFault}
 use Rattle.ply_reader.specs.declared.whole_mesh.MeshFault.TheVariants.{Text, Memory}
 use Rattle.ply_reader.specs.Cursors.{at}
-use Rattle.ply_reader.specs.PlyMeaning.{PlyMesh, outcome_of, ply_meaning, meaning_of}
+use Rattle.ply_reader.specs.PlyMeaning.{PlyMesh, outcome_of, meaning_of}
 use Rattle.ply_reader.specs.MeshCalls.{MeshReading, mesh_reading}
-use Rattle.ply_reader.specs.Gathering.{outcome_from, WentOn, Gave, IsStopped, GaveAll}
+use Rattle.ply_reader.specs.Gathering.{outcome_from, WentOn, IsStopped, GaveAll}
 use Rattle.ply_reader.specs.WholeMeshes.{IsReadTo, Answers}
 use Rattle.ply_reader.proofs.GatheredMeshes.{GaveTold, StopTold, IsReached, some_of}
 

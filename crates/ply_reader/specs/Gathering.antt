@@ -1,5 +1,5 @@
 -- What a reader of a mesh gave since it began.
-use Rattle.std.specs.Prelude.{◌≡◌, ◌≢◌, ℕ, ◌+◌, ◌≤◌, List, [], ◌++◌, None, Some, IfSome, MatchOption, Ok, Err}
+use Rattle.std.specs.Prelude.{◌≡◌, ◌≢◌, ℕ, ◌+◌, ◌≤◌, List, [], ◌++◌, Some, IfSome, MatchOption, Ok, Err}
 use Rattle.svo_base.specs.declared.shapes.Point.{Point}
 use Rattle.dev_traits.specs.Faults.{Rose}
 use Rattle.ply_text.specs.Reading.{Reading, StandsIn}

@@ -1,9 +1,7 @@
 -- A mesh that is read whole.
 use Rattle.std.specs.Prelude.{◌≡◌, ℕ, ◌^◌, ◌<◌, ◌≤◌, List, [], length, drop, Option, Some, Result, Ok, Err}
 use Rattle.std.specs.List.{All}
-use Rattle.svo_base.specs.declared.shapes.Point.{Point}
 use Rattle.ply_reader.specs.declared.fault.PlyFault.TheVariants.{Refused, ReadFault}
-use Rattle.ply_reader.specs.declared.fans.FaceTriangle.{FaceTriangle}
 use Rattle.ply_reader.specs.declared.scales.Scale.{Scale}
 use Rattle.ply_reader.specs.declared.whole_mesh.MeshFault.{MeshFault}
 use Rattle.ply_reader.specs.declared.whole_mesh.MeshFault.TheVariants.{Text, Memory}
