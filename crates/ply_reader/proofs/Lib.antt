@@ -2,10 +2,12 @@ pub mod Beginnings
 pub mod BodySteps
 pub mod EndRuns
 pub mod FewElements
+pub mod GatheredMeshes
 pub mod HeaderRuns
 pub mod MeshRuns
 pub mod RowSteps
 pub mod Steps
 pub mod TokenRuns
+pub mod WholeReads
 pub mod WithinRanges
 pub mod WordLists

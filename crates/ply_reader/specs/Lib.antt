@@ -1,6 +1,7 @@
 pub mod Bounds
 pub mod Cursors
 pub mod Declarations
+pub mod Gathering
 pub mod HeaderRules
 pub mod HeaderSteps
 pub mod Layout
@@ -12,3 +13,4 @@ pub mod Ranges
 pub mod Rows
 pub mod Runs
 pub mod TokenValues
+pub mod WholeMeshes

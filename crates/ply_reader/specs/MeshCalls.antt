@@ -5,6 +5,7 @@ use Rattle.std.specs.List.{All}
 use Rattle.svo_base.specs.declared.shapes.Point.{Point}
 use Rattle.dev_traits.specs.declared.device.ByteSource.{Ghosts}
 use Rattle.dev_traits.specs.Faults.{Rose}
+use Rattle.ply_text.specs.declared.tokens.Tokens.{Tokens}
 use Rattle.ply_text.specs.Reading.{Reading, StandsIn, reading}
 use Rattle.ply_reader.specs.declared.fault.PlyFault.{PlyFault}
 use Rattle.ply_reader.specs.declared.fault.PlyFault.TheVariants.{ReadFault}
@@ -49,8 +50,12 @@ pub record MeshReading : Type 0 where
   pub stopped : Option PlyFault
 
 module _ {I : Type 0} {g : Ghosts I} where
-  abbrev pub mesh_reading : MeshReader I g → MeshReading
-  mesh_reading reader = record { body = body_reading (reading reader.tokens) reader.body; stopped = reader.stopped }
+  abbrev pub mesh_reading : Tokens I g → MeshReader → MeshReading
+  mesh_reading tokens reader = record { body = body_reading (reading tokens) reader.body; stopped = reader.stopped }
+
+-- a reader that is not stopped reads a text that is not
+abbrev pub IsReady : MeshReading → Type 0
+IsReady r = r.stopped ≡ None → r.body.text.stopped ≡ None
 
 -- the faces left, and the rest of the one that was begun
 abbrev pub begun_rest : Declared → ℕ → Option Fan → Cursor → Outcome

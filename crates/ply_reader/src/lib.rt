@@ -20,6 +20,7 @@ mod scales;
 mod slices;
 mod taking;
 mod vertices;
+mod whole_mesh;
 
 pub use elements::{Element, Role};
 pub use fans::FaceTriangle;
@@ -27,6 +28,10 @@ pub use fault::{PlyFault, PlyKind};
 pub use header::Header;
 pub use mesh::MeshReader;
 pub use properties::{Part, Property, Scalar};
+pub use scales::Scale;
+pub use whole_mesh::{MeshFault, WholeMesh, read_mesh};
 
+#[cfg(test)]
+mod header_tests;
 #[cfg(test)]
 mod tests;

@@ -16,25 +16,26 @@ use svo_base::Point;
 /// keeps one token, the header's tables and a face's first and last corner, and nothing of the mesh's
 /// size.
 ///
+/// The text is read through the same tokens in each call, which are lent for the call alone.
+///
 /// After a refusal or a read fault each call answers it again and changes nothing.
 #[derive(Drop)]
-pub struct MeshReader<'a, I: ByteSource> {
-    tokens: Tokens<'a, I>,
+pub struct MeshReader {
     body: Body,
     stopped: Option<PlyFault>,
-    ghost free: { stopped ≡ None → tokens.stopped ≡ None },
 }
 
-impl<'a, I: ByteSource> MeshReader<'a, I> {
+impl MeshReader {
     ghost use Rattle.std.specs.Prelude.{None, Ok, IfOk};
     ghost use Rattle.ply_text.specs.Calls.{SameLent};
+    ghost use Rattle.ply_reader.specs.Declarations.{declared};
     ghost use Rattle.ply_reader.specs.Layout.{vertex_count, face_count};
-    ghost use Rattle.ply_reader.specs.MeshCalls.{mesh_reading, MeshCall, Begins, HasNoFace, AtEnd, CountsVertex, CountsFace, give_vertex, give_face, give_end};
+    ghost use Rattle.ply_reader.specs.MeshCalls.{mesh_reading, IsReady, MeshCall, Begins, HasNoFace, AtEnd, CountsVertex, CountsFace, give_vertex, give_face, give_end};
     ghost use Rattle.ply_text.specs.Reading.{reading};
 
     /// How many vertices the header declares; 0 where it was refused.
     pub fn vertex_count(&self) -> u64
-        ensures value { result ≡ vertex_count (mesh_reading self.now).body.header }
+        ensures value { result ≡ vertex_count (declared self.now.body.header) }
         ensures few { result < 2 ^ 32 }
     {
         self.body.vertex_count()
@@ -42,7 +43,7 @@ impl<'a, I: ByteSource> MeshReader<'a, I> {
 
     /// How many faces the header declares; 0 where it was refused.
     pub fn face_count(&self) -> u64
-        ensures value { result ≡ face_count (mesh_reading self.now).body.header }
+        ensures value { result ≡ face_count (declared self.now.body.header) }
         ensures few { result < 2 ^ 32 }
     {
         self.body.face_count()
@@ -56,16 +57,21 @@ impl<'a, I: ByteSource> MeshReader<'a, I> {
     /// - `Refused` with `BadNumber`, `NotWhole`, `OutOfRange`: a coordinate is refused, at its place.
     /// - `Refused` with `BadCount`, `TokenTooLong`, `Truncated`, `TooLong`: so is what stands between.
     /// - `ReadFault`: the source refused a read.
-    pub fn next_vertex(&mut self) -> Result<Option<Point>, PlyFault>
-        ensures same { SameLent self.old.tokens self.new.tokens }
-        ensures call { MeshCall give_vertex (mesh_reading self.old) (mesh_reading self.new) result }
-        ensures counted { IfOk result (CountsVertex (mesh_reading self.old).body (mesh_reading self.new).body) }
-        ensures used_up { self.old.stopped ≡ None → (mesh_reading self.old).body.vertices ≡ 0 → result ≡ Ok None }
+    pub fn next_vertex<I: ByteSource>(
+        &mut self,
+        tokens: &mut Tokens<'_, I>,
+    ) -> Result<Option<Point>, PlyFault>
+        requires ready { IsReady (mesh_reading tokens.old self.old) }
+        ensures same { SameLent tokens.old tokens.new }
+        ensures ready { IsReady (mesh_reading tokens.new self.new) }
+        ensures call { MeshCall give_vertex (mesh_reading tokens.old self.old) (mesh_reading tokens.new self.new) result }
+        ensures counted { IfOk result (CountsVertex (mesh_reading tokens.old self.old).body (mesh_reading tokens.new self.new).body) }
+        ensures used_up { self.old.stopped ≡ None → self.old.body.vertices ≡ 0 → result ≡ Ok None }
     {
         if let Some(fault) = self.stopped {
             return Err(fault);
         }
-        let found = self.body.next_vertex(&mut self.tokens);
+        let found = self.body.next_vertex(tokens);
         self.stopped = found.err();
         found
     }
@@ -79,16 +85,21 @@ impl<'a, I: ByteSource> MeshReader<'a, I> {
     /// - `Refused` with `BadIndex`: a corner is not the number of a vertex.
     /// - `Refused` with `TokenTooLong`, `Truncated`, `TooLong`: so is what stands between.
     /// - `ReadFault`: the source refused a read.
-    pub fn next_triangle(&mut self) -> Result<Option<FaceTriangle>, PlyFault>
-        requires vertices { self.old.stopped ≡ None → (mesh_reading self.old).body.vertices ≡ 0 }
-        ensures same { SameLent self.old.tokens self.new.tokens }
-        ensures call { MeshCall give_face (mesh_reading self.old) (mesh_reading self.new) result }
-        ensures counted { IfOk result (CountsFace (mesh_reading self.old).body (mesh_reading self.new).body) }
+    pub fn next_triangle<I: ByteSource>(
+        &mut self,
+        tokens: &mut Tokens<'_, I>,
+    ) -> Result<Option<FaceTriangle>, PlyFault>
+        requires ready { IsReady (mesh_reading tokens.old self.old) }
+        requires vertices { self.old.stopped ≡ None → self.old.body.vertices ≡ 0 }
+        ensures same { SameLent tokens.old tokens.new }
+        ensures ready { IsReady (mesh_reading tokens.new self.new) }
+        ensures call { MeshCall give_face (mesh_reading tokens.old self.old) (mesh_reading tokens.new self.new) result }
+        ensures counted { IfOk result (CountsFace (mesh_reading tokens.old self.old).body (mesh_reading tokens.new self.new).body) }
     {
         if let Some(fault) = self.stopped {
             return Err(fault);
         }
-        let found = self.body.next_triangle(&mut self.tokens);
+        let found = self.body.next_triangle(tokens);
         self.stopped = found.err();
         found
     }
@@ -101,16 +112,18 @@ impl<'a, I: ByteSource> MeshReader<'a, I> {
     /// - `Refused` with `TrailingData`: something else follows, at its place.
     /// - `Refused` with `BadCount`, `TokenTooLong`, `Truncated`, `TooLong`: an element is refused.
     /// - `ReadFault`: the source refused a read.
-    pub fn finish(&mut self) -> Result<u64, PlyFault>
-        requires faces { self.old.stopped ≡ None → HasNoFace (mesh_reading self.old).body }
-        ensures same { SameLent self.old.tokens self.new.tokens }
-        ensures call { MeshCall give_end (mesh_reading self.old) (mesh_reading self.new) result }
-        ensures ended { IfOk result (AtEnd (mesh_reading self.old).body.text (mesh_reading self.new).body.text) }
+    pub fn finish<I: ByteSource>(&mut self, tokens: &mut Tokens<'_, I>) -> Result<u64, PlyFault>
+        requires ready { IsReady (mesh_reading tokens.old self.old) }
+        requires faces { self.old.stopped ≡ None → HasNoFace (mesh_reading tokens.old self.old).body }
+        ensures same { SameLent tokens.old tokens.new }
+        ensures ready { IsReady (mesh_reading tokens.new self.new) }
+        ensures call { MeshCall give_end (mesh_reading tokens.old self.old) (mesh_reading tokens.new self.new) result }
+        ensures ended { IfOk result (AtEnd (mesh_reading tokens.old self.old).body.text (mesh_reading tokens.new self.new).body.text) }
     {
         if let Some(fault) = self.stopped {
             return Err(fault);
         }
-        let found = self.body.finish(&mut self.tokens);
+        let found = self.body.finish(tokens);
         self.stopped = found.err();
         found
     }
@@ -121,22 +134,20 @@ impl<'a, I: ByteSource> MeshReader<'a, I> {
     ///
     /// Coordinates are multiplied by ten to the power of `decimals`, which is at most 9; with `cut`
     /// they are then cut toward zero.
-    pub fn begin(tokens: Tokens<'a, I>, decimals: u32, cut: bool) -> MeshReader<'a, I>
+    pub fn begin<I: ByteSource>(tokens: &mut Tokens<'_, I>, decimals: u32, cut: bool) -> MeshReader
         requires decimals { decimals ≤ 9 }
-        requires fresh { tokens.stopped ≡ None }
-        ensures same { SameLent tokens.entry result.tokens }
-        ensures begins { Begins (record { decimals = decimals; cut = cut }) (reading tokens.entry) (mesh_reading result) }
+        requires fresh { tokens.old.stopped ≡ None }
+        ensures same { SameLent tokens.old tokens.new }
+        ensures ready { IsReady (mesh_reading tokens.new result) }
+        ensures begins { Begins (record { decimals = decimals; cut = cut }) (reading tokens.old) (mesh_reading tokens.new result) }
     {
-        let mut tokens = tokens;
         let scale = Scale { decimals, cut };
-        match read_to_vertices(&mut tokens) {
+        match read_to_vertices(tokens) {
             Ok(header) => MeshReader {
-                tokens,
                 body: Body::new(header, scale),
                 stopped: None,
             },
             Err(fault) => MeshReader {
-                tokens,
                 body: Body::new(Header::new(), scale),
                 stopped: Some(fault),
             },

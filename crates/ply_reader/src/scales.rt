@@ -2,7 +2,9 @@
 
 /// A power of ten that coordinates are multiplied by, and whether they are then cut toward zero.
 #[derive(Clone, Copy, Debug, PartialEq, Eq)]
-pub(crate) struct Scale {
-    pub(crate) decimals: u32,
-    pub(crate) cut: bool,
+pub struct Scale {
+    /// At most 9.
+    pub decimals: u32,
+    /// Whether what is left behind the point is cut off; else it is refused.
+    pub cut: bool,
 }
