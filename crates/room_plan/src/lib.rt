@@ -1,8 +1,10 @@
 //! The memory that a build works in.
 #![tactic(auto)]
 
+mod elements;
 mod queues;
 
+pub use elements::{Parcel, VertexBlock};
 pub use queues::{QueueEntry, Queues};
 
 #[cfg(test)]
