@@ -1,5 +1,5 @@
 -- The streams of a scratch that hold the parcels of parts, and the parcels that bytes of a stream are. The parcels of a part stand in the stream behind those of the parts before it; stream 0 is for other data.
-use Rattle.std.specs.Prelude.{◌≡◌, ℕ, ◌+◌, ◌*◌, ◌/◌, ◌^◌, ◌<◌, ℤ, pos, List, map, length, drop, slice_index_or}
+use Rattle.std.specs.Prelude.{ℕ, ◌+◌, ◌*◌, ◌/◌, ◌^◌, ◌<◌, ℤ, pos, List, map, length, drop, slice_index_or}
 use Rattle.std.specs.Int.{w32, cast_signed}
 use Rattle.byteorder.specs.Endian.{little_number}
 use Rattle.svo_base.specs.declared.shapes.Point.{Point}

@@ -1,5 +1,5 @@
 -- What a reader of a part's parcels does.
-use Rattle.std.specs.Prelude.{◌≡◌, ◌≢◌, ℕ, ◌+◌, ◌≤◌, ◌<◌, List, [], ◌∷◌, length, take, drop, Option, Result, IfOk, MatchOption, MatchResult}
+use Rattle.std.specs.Prelude.{◌≡◌, ℕ, ◌+◌, ◌≤◌, ◌<◌, List, [], ◌∷◌, length, take, drop, Option, Result, IfOk, MatchOption, MatchResult}
 use Rattle.octree_specs.specs.FacedTriangles.{Faced}
 use Rattle.room_plan.specs.declared.elements.Parcel.{Parcel}
 use Rattle.tri_partition.specs.PartStreams.{faced_of, parcel_from, parcels_in}

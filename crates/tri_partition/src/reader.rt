@@ -75,7 +75,9 @@ impl<'a> PartReader<'a> {
         if self.from == self.to {
             return Ok(None);
         }
-        Ok(Some(self.take()))
+        let parcel = self.front();
+        self.pass();
+        Ok(Some(parcel))
     }
 
     /// Reads on where no parcel is at hand. None is then only where the stream has no whole one left.
@@ -86,6 +88,8 @@ impl<'a> PartReader<'a> {
         ensures none { IfSome (S.told scratch.old) (λ streams. OnOk result (self.new.held ≡ [] → length (part_stream streams self.old.part) < self.old.place + 40)) }
         ensures part { self.new.part ≡ self.old.part }
         ensures place { self.new.place ≡ self.old.place }
+        ensures bounded { self.new.place < 2 ^ 64 }
+        ensures kept { self.old.held ≢ [] → self.new ≡ self.old }
         ensures refused { OnErr result (self.new ≡ self.old) }
         ensures told { S.told scratch.new ≡ S.told scratch.old }
         ensures started { S.started scratch.new ≡ S.started scratch.old }
@@ -101,20 +105,24 @@ impl<'a> PartReader<'a> {
         Ok(())
     }
 
-    /// Gives the parcel at hand.
-    fn take(&mut self) -> Parcel
-        requires { self.old.held ≢ [] }
-        ensures faced { faced_of result ≡ parcel_from (take 40 self.old.held) }
-        ensures part { result.part ≡ self.old.part }
-        ensures after { self.new ≡ record { part = self.old.part; place = self.old.place + 40; held = drop 40 self.old.held } }
-        ensures whole { 40 ≤ length self.old.held }
+    /// The parcel at hand.
+    fn front(&self) -> Parcel
+        requires { self.now.held ≢ [] }
+        ensures faced { faced_of result ≡ parcel_from (take 40 self.now.held) }
+        ensures part { result.part ≡ self.now.part }
     {
-        let from = self.from;
-        let part = self.part;
-        let parcel = read_parcel(&self.block[from..from + PIECE_SIZE], part);
+        read_parcel(&self.block[self.from..self.from + PIECE_SIZE], self.part)
+    }
+
+    /// Passes the parcel at hand.
+    fn pass(&mut self)
+        requires { self.old.held ≢ [] }
+        ensures whole { 40 ≤ length self.old.held }
+        ensures after { self.new ≡ record { part = self.old.part; place = self.old.place + 40; held = drop 40 self.old.held } }
+        ensures place { self.new.place < 2 ^ 64 }
+    {
         self.from += PIECE_SIZE;
         self.place += PIECE_SIZE as u64;
-        parcel
     }
 }
 

@@ -1,5 +1,5 @@
 -- A size is a number of whole pieces, of at most what fits and what is left.
-use Rattle.std.proofs.Common.{◌/◌, arith, refl}
+use Rattle.std.proofs.Common.{◌/◌, arith}
 use Rattle.tri_partition.proofs.reader.read_pieces.Goals as goal
 
 pub returns-clause-size : goal.returns-clause-size
