@@ -1,1 +1,4 @@
+pub mod Buffers
+pub mod Planning
 pub mod QueuesView
+pub mod Rooms
