@@ -6,3 +6,6 @@ mod spooling;
 mod waiting;
 
 pub use spooling::Spool;
+
+#[cfg(test)]
+mod tests;

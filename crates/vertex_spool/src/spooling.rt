@@ -53,7 +53,7 @@ impl<'a> Spool<'a> {
         requires window { 0 < length window.old }
         ensures count { result.count ≡ 0 }
         ensures waiting { result.waiting ≡ [] }
-        ensures open { result.closed ≡ false }
+        ensures unclosed { result.closed ≡ false }
         ensures none { (bytes : List ℕ) → AreBlocksOf bytes result.window }
     {
         forget(window);
@@ -73,12 +73,12 @@ impl<'a> Spool<'a> {
     ///
     /// `Failed`: the scratch refused an append.
     pub fn put<S: Scratch>(&mut self, point: Point, scratch: &mut S) -> Result<(), Failed>
-        requires open { self.old.closed ≡ false }
+        requires unclosed { self.old.closed ≡ false }
         requires few { self.old.count < 2 ^ 32 - 1 }
         requires stream { 0 < S.started scratch.old }
         ensures put { OnOk result (with_waiting (S.told scratch.new) self.new.waiting ≡ grown_known (with_waiting (S.told scratch.old) self.old.waiting) 0 (point_bytes point)) }
         ensures count { OnOk result (self.new.count ≡ self.old.count + 1) }
-        ensures open { OnOk result (self.new.closed ≡ false) }
+        ensures unclosed { OnOk result (self.new.closed ≡ false) }
         ensures window { self.new.window ≡ self.old.window }
         ensures started { S.started scratch.new ≡ S.started scratch.old }
         ensures asked { S.asked scratch.new ≡ S.asked scratch.old }
