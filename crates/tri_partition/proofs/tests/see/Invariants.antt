@@ -14,5 +14,5 @@ invariant-loop-parcel g l = record {
   holds : IfSome (g.S.Scratch.told l.scratch) (λ streams. StillHolds (part_stream streams l.fn.part) l.reader);
 }
 
-abbrev pub decreases-loop-parcel : goal.measure-loop-parcel
+abbrev pub decreases-loop-parcel : goal.decreases-loop-parcel
 decreases-loop-parcel g l = 2 ^ 64 - l.reader.place
