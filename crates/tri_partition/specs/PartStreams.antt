@@ -1,4 +1,4 @@
--- The streams of a scratch that hold the parcels of parts, and the parcels that bytes of a stream are. The parcels of a part stand in the stream behind those of the parts before it; stream 0 is for other data.
+-- The streams of a scratch that hold the parcels of parts, and the parcels that bytes of a stream are. The parcels of a part stand in the stream with the next number after its own; stream 0 is for other data.
 use Rattle.std.specs.Prelude.{ℕ, ◌+◌, ◌*◌, ◌/◌, ◌^◌, ◌<◌, ℤ, pos, List, map, length, drop, slice_index_or}
 use Rattle.std.specs.Int.{w32, cast_signed}
 use Rattle.byteorder.specs.Endian.{little_number}
@@ -7,6 +7,7 @@ use Rattle.dev_traits.specs.Streams.{stream_of}
 use Rattle.octree_specs.specs.FacedTriangles.{Faced}
 use Rattle.octree_specs.specs.Parcels.{pieces_of}
 use Rattle.room_plan.specs.declared.elements.Parcel.{Parcel}
+use Rattle.room_plan.specs.Coordinates.{number_at, coordinate_at, point_at}
 
 -- the part's stream is started, and has a number of 32 bits
 pub record HasStream (started part : ℕ) : Type 0 where
@@ -28,17 +29,7 @@ unfoldable pub faced_of : Parcel → Faced
 faced_of parcel =
     record { triangle = record { a = corner_at parcel.corners 0; b = corner_at parcel.corners 3; c = corner_at parcel.corners 6 }; face = parcel.face }
 
--- ---- bytes as parcels: little-endian numbers of 4 bytes each, of which the coordinates are signed
-
--- the number behind so many others
-abbrev pub number_at : List ℕ → ℕ → ℕ
-number_at bytes place = little_number 4 (drop (4 * place) bytes)
-
-abbrev pub coordinate_at : List ℕ → ℕ → ℤ
-coordinate_at bytes place = cast_signed w32 (number_at bytes place)
-
-abbrev pub point_at : List ℕ → ℕ → Point
-point_at bytes place = record { x = coordinate_at bytes place; y = coordinate_at bytes (place + 1); z = coordinate_at bytes (place + 2) }
+-- ---- bytes as parcels
 
 -- what 40 bytes stand for: nine coordinates and a face
 unfoldable pub parcel_from : List ℕ → Faced

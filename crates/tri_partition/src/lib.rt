@@ -5,3 +5,6 @@ mod pieces;
 mod reader;
 
 pub use reader::PartReader;
+
+#[cfg(test)]
+mod tests;

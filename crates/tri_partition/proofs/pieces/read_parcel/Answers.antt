@@ -3,7 +3,8 @@ use Rattle.std.proofs.Common.{◌≡◌, ◌-◌, ℕ, pos, List, length, take, 
 use Rattle.std.specs.Int.{w32, cast_signed}
 use Rattle.std.proofs.lemmas.List.{length-take-le, take_all, length-drop}
 use Rattle.byteorder.specs.Endian.{little_number}
-use Rattle.tri_partition.proofs.Numbers.{number_in_front, parcel_is}
+use Rattle.room_plan.proofs.Numbers.{number_in_front}
+use Rattle.tri_partition.proofs.Numbers.{parcel_is}
 use Rattle.tri_partition.proofs.pieces.read_parcel.Goals as goal
 
 pub slice_bounds-read_i32_into-end : goal.slice_bounds-read_i32_into-end
