@@ -3,12 +3,15 @@
 #![tactic(auto)]
 
 mod slots;
+mod touched;
 
 ghost use Rattle.std.specs.Prelude.{◌≡◌, ◌≢◌, ℕ, ◌*◌, ◌/◌, ◌%◌, ◌^◌, ◌<◌, ◌≤◌, true, false, length, slice_index, IfNone, IfSome, MatchOption};
 ghost use Rattle.std.specs.Int.{bit_at};
+ghost use Rattle.bit_grid.specs.Touched.{AreTouched};
 ghost use Rattle.bit_grid.specs.Places.{is_set_at, HasNoneFrom, IsNextSet, IsLowestBit};
 
 pub use slots::{clear_slots, next_slot, put_least};
+pub use touched::{TouchedBlocks, clear_touched, next_touched, put_touched};
 
 /// The number of places that a word has.
 const WORD_BITS: u64 = 64;
@@ -137,6 +140,43 @@ mod tests {
             );
         }
         assert_eq!(rt; next_slot(&slots[2..3], 0), None);
+    }
+
+    /// Blocks of four slots.
+    #[test]
+    fn touched_blocks_are_searched_and_cleared(rt: HostRuntime) {
+        let mut slots = [7; 70_000];
+        let mut blocks = cleared(&mut slots);
+        put_touched(&mut slots, &mut blocks, 5, 2);
+        put_touched(&mut slots, &mut blocks, 69_999, 0);
+        put_touched(&mut slots, &mut blocks, 5, 7);
+        put_touched(&mut slots, &mut blocks, 4096, 1);
+        for (from, wanted) in [
+            (0, Some(5)),
+            (5, Some(5)),
+            (6, Some(4096)),
+            (4097, Some(69_999)),
+            (70_000, None),
+            (u64::MAX, None),
+        ] {
+            assert_eq!(rt;
+                next_touched(&slots, &blocks, from),
+                wanted,
+                "the least place from {from} on"
+            );
+        }
+        assert_eq!(rt; (slots[5], slots[4096], slots[69_999]), (3, 2, 1));
+        clear_touched(&mut slots, &mut blocks);
+        assert_eq!(rt; next_touched(&slots, &blocks, 0), None);
+        assert_eq!(rt; next_slot(&slots, 0), None);
+    }
+
+    /// Slots that are 0, and that no block was touched.
+    fn cleared(slots: &mut [u32]) -> TouchedBlocks
+        ensures { AreTouched slots.new result }
+    {
+        clear_slots(slots);
+        TouchedBlocks::none(slots.len())
     }
 
     #[test]

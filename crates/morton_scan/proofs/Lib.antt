@@ -5,3 +5,6 @@ pub mod Levels
 pub mod FilledParts
 pub mod Planes
 pub mod ReachedCubes
+pub mod ReachedOctants
+pub mod SmallerNodes
+pub mod TakenParcels

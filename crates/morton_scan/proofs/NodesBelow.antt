@@ -1,5 +1,5 @@
 -- A node that a triangle does not meet has no cell that it meets.
-use Rattle.std.proofs.Common.{◌≡◌, ℕ, zero, suc, ◌+◌, ◌-◌, ◌*◌, ◌/◌, ◌%◌, ◌^◌, ◌≤◌, Bool, false, List, length, get_or, set, arith, sym, ap, subst, ◌∙◌}
+use Rattle.std.proofs.Common.{◌≡◌, ℕ, ◌+◌, ◌-◌, ◌*◌, ◌/◌, ◌^◌, ◌<◌, ◌≤◌, Bool, false, List, length, get_or, set, arith, sym, subst}
 use Rattle.svo_base.specs.GridShape.{GridShape}
 use Rattle.svo_base.specs.declared.shapes.Triangle.{Triangle}
 use Rattle.octree_specs.specs.Meeting.{Meets}
@@ -37,3 +37,10 @@ put_leaf grid t height code first face old new leaf has met is =
     let level : grid.depth - height ≡ grid.depth = omega (arith, leaf) in
     subst (λ h. ArePut (MetUnder grid t h code (code + 1)) first face old new) (sym leaf)
     (put_cell grid t code first face old new (omega (arith, from)) (omega (arith, from, to)) (subst (λ l. Meets t (node_cube grid l code)) level met) is)
+
+-- the place of a cell, which is a node of height 0
+pub leaf_place : (first count height code : ℕ) → height ≡ 0 → HasSlots first count height code → (first ≤ code) × (code - first < count)
+leaf_place first count height code leaf has =
+    let from : first ≤ code * 8 ^ 0 = subst (λ h. first ≤ code * 8 ^ h) leaf has.from in
+    let to : (code + 1) * 8 ^ 0 ≤ first + count = subst (λ h. (code + 1) * 8 ^ h ≤ first + count) leaf has.to in
+    (omega (arith, from), omega (arith, from, to))

@@ -63,7 +63,7 @@ put_no_node grid t height from first face slots =
     none_put (MetUnder grid t height from from) first face slots (λ code chosen. absurd (omega (arith, chosen.0, chosen.1.0)))
 
 -- a code under a node is one under its children
-one_higher : (code height : ℕ) → code / 8 ^ height / 8 ≡ code / 8 ^ suc height
+pub one_higher : (code height : ℕ) → code / 8 ^ height / 8 ≡ code / 8 ^ suc height
 one_higher code height =
     let power : 8 ^ height * 8 ≡ 8 ^ suc height = sym (pow-suc 8 height) in
     div-div-eq-div-mul code (8 ^ height) 8 ∙ ap (λ n. code / n) power

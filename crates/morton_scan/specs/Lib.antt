@@ -3,3 +3,4 @@ pub mod Putting
 pub mod NextCells
 pub mod FilledParts
 pub mod Reaching
+pub mod Narrowing

@@ -1,11 +1,13 @@
 -- The box around a triangle, and which cubes it reaches.
-use Rattle.std.specs.Prelude.{ℕ, Bool, ◌&&◌, ℤ, int_le}
+use Rattle.std.specs.Prelude.{ℕ, zero, suc, ◌/◌, ◌%◌, Bool, ◌&&◌, ℤ, int_le}
 use Rattle.std.specs.Int.{int_min, int_max}
 use Rattle.svo_base.specs.declared.shapes.Cube.{Cube}
 use Rattle.svo_base.specs.declared.shapes.Triangle.{Triangle}
 use Rattle.octree_specs.specs.Meeting.{low_of, high_of}
 use Rattle.morton_scan.specs.declared.bounds.Bounds.{Bounds}
 use Rattle.morton_scan.specs.declared.bounds.Extent.{Extent}
+use Rattle.morton_scan.specs.declared.octants.Halves.{Halves}
+use Rattle.morton_scan.specs.declared.octants.Octants.{Octants}
 
 -- from the least of three coordinates to the greatest
 abbrev pub extent_of : ℤ → ℤ → ℤ → Extent
@@ -22,3 +24,19 @@ extent_reaches extent cube axis = int_le extent.low (high_of cube axis) && int_l
 -- the box and the closed cube share a point
 unfoldable pub bounds_reach : Bounds → Cube → Bool
 bounds_reach b cube = extent_reaches b.x cube 0 && extent_reaches b.y cube 1 && extent_reaches b.z cube 2
+
+-- on which sides of a node's middle plane the extent lies. The last child of a node begins there
+abbrev pub halves_of : Extent → Cube → ℕ → Halves
+halves_of extent last axis = record { lower = int_le extent.low (low_of last axis); upper = int_le (low_of last axis) extent.high }
+
+unfoldable pub octants_of : Bounds → Cube → Octants
+octants_of b last = record { x = halves_of b.x last 0; y = halves_of b.y last 1; z = halves_of b.z last 2 }
+
+-- the lower half, or the upper one
+abbrev pub has_half : Halves → ℕ → Bool
+has_half halves zero = halves.lower
+has_half halves (suc _) = halves.upper
+
+-- the octant at a place among its siblings
+unfoldable pub has_octant : Octants → ℕ → Bool
+has_octant octants octant = has_half octants.x (octant % 2) && has_half octants.y (octant / 2 % 2) && has_half octants.z (octant / 4 % 2)

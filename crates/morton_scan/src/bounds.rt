@@ -1,8 +1,9 @@
 //! The box around a triangle.
 
 ghost use Rattle.std.specs.Prelude.{◌≡◌, ◌<◌};
-ghost use Rattle.morton_scan.specs.Reaching.{bounds_of, bounds_reach, extent_of, extent_reaches};
+ghost use Rattle.morton_scan.specs.Reaching.{bounds_of, bounds_reach, extent_of, extent_reaches, halves_of};
 
+use crate::octants::Halves;
 use svo_base::{Cube, Triangle};
 
 /// From the least to the greatest of a triangle's coordinates along an axis.
@@ -29,6 +30,17 @@ impl Extent {
         ensures { result ≡ extent_reaches self.now cube.now axis }
     {
         i64::from(self.low) <= cube.hi[axis] && cube.lo[axis] <= i64::from(self.high)
+    }
+
+    /// Which halves along an axis it reaches of a node whose last child has this cube.
+    pub fn halves(&self, last: &Cube, axis: usize) -> Halves
+        requires { axis < 3 }
+        ensures { result ≡ halves_of self.now last.now axis }
+    {
+        Halves {
+            lower: i64::from(self.low) <= last.lo[axis],
+            upper: last.lo[axis] <= i64::from(self.high),
+        }
     }
 }
 

@@ -7,11 +7,19 @@ mod bounds;
 mod cells;
 mod filling;
 mod laws;
+mod narrowing;
 mod nodes;
+mod octants;
+mod part_slots;
+mod parts;
 
 pub use cells::{FilledCell, next_code};
 pub use filling::fill_triangle;
 pub use laws::slots_grow_by_triangles;
+pub use part_slots::PartSlots;
+pub use parts::fill_part;
 
+#[cfg(test)]
+mod stream_tests;
 #[cfg(test)]
 mod tests;

@@ -8,7 +8,7 @@ use morton_code::cube_of;
 use svo_base::{Cube, Grid};
 
 /// A node: how many levels it stands above the cells, its Morton code, and its cube.
-#[derive(Drop)]
+#[derive(Clone, Copy)]
 pub struct Node {
     pub height: u32,
     pub code: u64,

@@ -1,9 +1,8 @@
 //! Cells that were worked out by hand, and the plain program: every cell, every triangle.
 
-ghost use Rattle.std.specs.Prelude.{◌≡◌, ◌^◌, ◌<◌, ◌≤◌, unsigned_abs};
+ghost use Rattle.std.specs.Prelude.{◌≡◌, ◌^◌, ◌<◌, ◌≤◌, unsigned_abs, IfSome};
 
-use crate::{FilledCell, fill_triangle, next_code};
-use bit_grid::clear_slots;
+use crate::{FilledCell, PartSlots, fill_triangle, next_code};
 use morton_code::cube_of;
 use std::marker::Brand;
 use std::sync::ledger::{Blank, Ledger};
@@ -18,6 +17,13 @@ const FLAT: Corners = [[0, 0, 0], [1, 0, 0], [0, 1, 0]];
 
 /// A point, as a triangle.
 const MIDDLE: Corners = [[2, 2, 2], [2, 2, 2], [2, 2, 2]];
+
+/// A triangle through the middle of the widest grid, as large as coordinates are.
+const WIDEST: Corners = [
+    [-1 << 30, -1 << 30, -1 << 30],
+    [1 << 30, 1 << 30, 1 << 30],
+    [1 << 30, -1 << 30, 1 << 30],
+];
 
 /// The greatest point, as a triangle.
 const GREATEST: Corners = [
@@ -78,6 +84,22 @@ const ROWS: &[Row] = &[
         &[(0, 1), (1, 1), (2, 1), (7, 0)],
     ),
     (
+        "the widest triangle in the widest grid",
+        (1, -1 << 30, 1 << 31),
+        (0, 0),
+        &[(WIDEST, 0)],
+        &[
+            (0, 0),
+            (1, 0),
+            (2, 0),
+            (3, 0),
+            (4, 0),
+            (5, 0),
+            (6, 0),
+            (7, 0),
+        ],
+    ),
+    (
         "the greatest face, in a part of the widest grid",
         (12, -1 << 30, 1 << 20),
         (10, 956_301_311),
@@ -129,22 +151,39 @@ fn filled_cells_come_in_order(rt: HostRuntime) {
 #[test]
 fn a_segment_is_filled_two_thousand_times(rt: HostRuntime) {
     let grid = Grid::new(8, [0, 0, 0], 1).expect(&rt, "a grid");
-    let mut slots = [0_u32; 32_768];
-    let mut cells = 0_usize;
+    let mut lent = [1_u32; 32_768];
+    let mut slots = PartSlots::new(&mut lent);
+    let mut cells = 0_u64;
     for part in 0..512 {
-        clear_slots(&mut slots);
         fill_often(&grid, part, &mut slots);
-        cells = cells.saturating_add(slots.iter().filter(|slot| **slot == 1).count());
+        cells = cells.saturating_add(first_faces(&slots, part));
+        slots.clear();
     }
     assert_eq!(rt; cells, 1786);
 }
 
 /// Puts the faces 0 to 1999 into a part of the third level.
-fn fill_often(grid: &Grid, part: u32, slots: &mut [u32]) {
+fn fill_often(grid: &Grid, part: u32, slots: &mut PartSlots<'_>) {
     let diagonal = triangle(DIAGONAL);
     for face in 0..2000 {
-        fill(grid, 3, part, &diagonal, face, slots);
+        fill_slots(grid, 3, part, &diagonal, face, slots);
     }
+}
+
+/// How many cells of a part of the third level are filled, where each has the face 0.
+fn first_faces(slots: &PartSlots<'_>, part: u32) -> u64 {
+    let mut cells = 0_u64;
+    let mut from = 0;
+    for _cell in 0..32_768 {
+        match next_cell(slots, part, 32_768, from) {
+            Some(cell) if cell.face == 0 => {
+                cells = cells.saturating_add(1);
+                from = cell.code + 1;
+            }
+            _ => return cells,
+        }
+    }
+    cells
 }
 
 /// Four triangles at a time, in a grid around 0 that is as wide as coordinates are far, and in a small
@@ -176,21 +215,40 @@ fn slots_are_those_of_the_plain_program(rt: HostRuntime) {
 fn are_plain(grid: &Grid, split: u32, count: u64, triangles: &[Triangle; 4]) -> bool
     requires { 0 < count }
 {
-    let mut slots = [0_u32; 512];
+    let mut lent = [1_u32; 512];
+    let mut slots = PartSlots::new(&mut lent);
     for code in 0..512_u64 {
         let part = (code / count) as u32;
         if code % count == 0 {
-            clear_slots(&mut slots);
-            fill(grid, split, part, &triangles[0], 2, &mut slots);
-            fill(grid, split, part, &triangles[1], 3, &mut slots);
-            fill(grid, split, part, &triangles[2], 0, &mut slots);
-            fill(grid, split, part, &triangles[3], 1, &mut slots);
+            slots.clear();
+            fill_slots(grid, split, part, &triangles[0], 2, &mut slots);
+            fill_slots(grid, split, part, &triangles[1], 3, &mut slots);
+            fill_slots(grid, split, part, &triangles[2], 0, &mut slots);
+            fill_slots(grid, split, part, &triangles[3], 1, &mut slots);
         }
-        if slots[(code % count) as usize] != plain_slot(grid, code, triangles) {
+        if slot_of(&slots, part, count, code) != plain_slot(grid, code, triangles) {
             return false;
         }
     }
     true
+}
+
+/// What the slot of a code's cell keeps.
+fn slot_of(slots: &PartSlots<'_>, part: u32, count: u64, code: u64) -> u32 {
+    match next_cell(slots, part, count, code) {
+        Some(cell) if cell.code == code => cell.face.saturating_add(1),
+        _ => 0,
+    }
+}
+
+/// The next filled cell, where the slots are as many as they must be.
+fn next_cell(slots: &PartSlots<'_>, part: u32, count: u64, from: u64) -> Option<FilledCell>
+    ensures { IfSome result (λ cell. cell.code < 2 ^ 60) }
+{
+    if (slots.len() as u64) < count || count > 32_768 {
+        return None;
+    }
+    slots.next_code(part, count, from)
 }
 
 /// The slot of a cell, each triangle asked.
@@ -283,6 +341,42 @@ fn fill_counted<L: Ledger>(
     }
     let mut tests = Steps::<L>::new(blank);
     fill_triangle(grid, split, part, triangle, face, slots, &mut tests);
+}
+
+/// Fills a triangle into the slots of a part, where the part and the slots are as they must be.
+fn fill_slots(
+    grid: &Grid,
+    split: u32,
+    part: u32,
+    triangle: &Triangle,
+    face: u32,
+    slots: &mut PartSlots<'_>,
+) {
+    fill_slots_counted::<Brand>(grid, split, part, triangle, face, slots, Blank::new(1));
+}
+
+fn fill_slots_counted<L: Ledger>(
+    grid: &Grid,
+    split: u32,
+    part: u32,
+    triangle: &Triangle,
+    face: u32,
+    slots: &mut PartSlots<'_>,
+    blank: Blank,
+)
+    requires name { blank.name ≡ L.name }
+    requires parts { blank.parts ≡ L.parts }
+    requires one { 0 < blank.parts }
+{
+    let depth = grid.depth();
+    if split > depth || depth > 12 || face == u32::MAX {
+        return;
+    }
+    if u64::from(part) >= power_of_8(split) || (slots.len() as u64) < power_of_8(depth - split) {
+        return;
+    }
+    let mut tests = Steps::<L>::new(blank);
+    slots.fill_triangle(grid, split, part, triangle, face, &mut tests);
 }
 
 fn power_of_8(exponent: u32) -> u64

@@ -1,1 +1,5 @@
+pub mod Buffers
+pub mod Coordinates
+pub mod Planning
 pub mod QueuesView
+pub mod Rooms

@@ -1,0 +1,2 @@
+pub mod PartStreams
+pub mod Reading

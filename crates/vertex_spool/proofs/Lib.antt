@@ -1,0 +1,2 @@
+pub mod GrownStreams
+pub mod Vertices

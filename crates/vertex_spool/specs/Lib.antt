@@ -1,0 +1,2 @@
+pub mod Spooling
+pub mod Window
