@@ -1,9 +1,6 @@
 -- Parcels by their numbers.
-use Rattle.std.proofs.Common.{◌≡◌, ◌≤◌, ◌<◌, ◌+◌, ◌-◌, ◌*◌, ℕ, pos, List, length, drop, take, refl, arith, sym, ap, ◌∙◌}
+use Rattle.std.proofs.Common.{◌≡◌, ◌<◌, ℕ, pos, List, refl, arith}
 use Rattle.std.specs.Prelude.{slice_index_or}
-use Rattle.std.proofs.lemmas.List.{length-take-le, take-append-drop, length-drop, drop-take}
-use Rattle.byteorder.specs.Endian.{little_number}
-use Rattle.byteorder.specs.Numbers.{little_from-append}
 use Rattle.room_plan.specs.declared.elements.Parcel.{Parcel}
 use Rattle.tri_partition.specs.PartStreams.{faced_of, parcel_from}
 use Rattle.room_plan.specs.Coordinates.{number_at, coordinate_at}

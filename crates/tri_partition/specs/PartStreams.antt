@@ -1,13 +1,11 @@
 -- The streams of a scratch that hold the parcels of parts, and the parcels that bytes of a stream are. The parcels of a part stand in the stream with the next number after its own; stream 0 is for other data.
-use Rattle.std.specs.Prelude.{ℕ, ◌+◌, ◌*◌, ◌/◌, ◌^◌, ◌<◌, ℤ, pos, List, map, length, drop, slice_index_or}
-use Rattle.std.specs.Int.{w32, cast_signed}
-use Rattle.byteorder.specs.Endian.{little_number}
+use Rattle.std.specs.Prelude.{ℕ, ◌+◌, ◌/◌, ◌^◌, ◌<◌, ℤ, pos, List, map, length, slice_index_or}
 use Rattle.svo_base.specs.declared.shapes.Point.{Point}
 use Rattle.dev_traits.specs.Streams.{stream_of}
 use Rattle.octree_specs.specs.FacedTriangles.{Faced}
 use Rattle.octree_specs.specs.Parcels.{pieces_of}
 use Rattle.room_plan.specs.declared.elements.Parcel.{Parcel}
-use Rattle.room_plan.specs.Coordinates.{number_at, coordinate_at, point_at}
+use Rattle.room_plan.specs.Coordinates.{number_at, point_at}
 
 -- the part's stream is started, and has a number of 32 bits
 pub record HasStream (started part : ℕ) : Type 0 where
