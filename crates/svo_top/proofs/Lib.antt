@@ -1,5 +1,5 @@
 pub mod CellCounts
-pub mod Plans
+pub mod MeshStops
 pub mod Puts
 pub mod WordCauses
 pub mod WorkedWords

@@ -46,8 +46,8 @@ without_memory input out kept_input kept_out (Build job) = (
     kept = λ a b. kept_out;
     cut_off = λ e. absurd cc;
     refused = λ kind place e. absurd cc;
-    accepts = λ grid text mesh a b c d e. inr refl;
-    rejects = λ grid text a b c d. inr refl;
+    accepts = λ text mesh a b c d e. inr refl;
+    rejects = λ text ply place a b c d. inr refl;
   },
 )
 without_memory input out kept_input kept_out (Why question) = (

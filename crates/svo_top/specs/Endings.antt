@@ -6,6 +6,10 @@ use Rattle.svo_top.specs.Lines.{stop_line, built_line}
 use Rattle.svo_words.specs.declared.build.BuildWords.{BuildWords}
 use Rattle.svo_top.specs.declared.outcome.Status.{Status}
 use Rattle.svo_top.specs.declared.outcome.Status.TheVariants.{Done, Usage, Input, Range, Device, Memory}
+use Rattle.ply_reader.specs.declared.fault.PlyFault.TheVariants.{Refused, ReadFault}
+use Rattle.ply_reader.specs.declared.whole_mesh.MeshFault.{MeshFault}
+use Rattle.ply_reader.specs.declared.whole_mesh.MeshFault.TheVariants.{Text, Memory as NoMemory}
+use Rattle.svo_top.specs.declared.outcome.InputKind.TheVariants.{Ply}
 use Rattle.svo_top.specs.declared.outcome.Device.TheVariants.{Read, Write}
 use Rattle.svo_top.specs.declared.reporting.Ending.{Ending}
 use Rattle.svo_top.specs.declared.reporting.Ending.TheVariants.{Built as EndsBuilt, Answered, Stopped}
@@ -14,6 +18,12 @@ abbrev pub status_of : Ending → Status
 status_of (EndsBuilt counts) = Done
 status_of Answered = Done
 status_of (Stopped status) = status
+
+-- how a build ends that got no mesh
+abbrev pub status_of_mesh : MeshFault → Status
+status_of_mesh (Text (Refused kind place)) = Input (Ply kind) place
+status_of_mesh (Text ReadFault) = Device Read
+status_of_mesh NoMemory = Memory
 
 abbrev pub line_of : Ending → List ℕ
 line_of (EndsBuilt counts) = built_line counts.cells counts.records counts.parts

@@ -7,6 +7,5 @@ pub mod Obeying
 pub mod Planning
 pub mod Questions
 pub mod Ranges
-pub mod Reading
 pub mod Usage
 pub mod Why

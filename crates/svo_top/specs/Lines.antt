@@ -4,14 +4,16 @@ use Rattle.std.specs.Fmt.{decimal}
 use Rattle.dev_traits.specs.Change.{Change, IsFaultless, Grew}
 use Rattle.svo_base.specs.declared.grids.GridFault.{GridFault}
 use Rattle.svo_base.specs.declared.grids.GridFault.TheVariants.{Depth, Origin, Cell, TooWide}
+use Rattle.ply_reader.specs.declared.fault.PlyKind.{PlyKind}
+use Rattle.ply_reader.specs.declared.fault.PlyKind.TheVariants as kind
 use Rattle.svo_top.specs.declared.outcome.Status.{Status}
 use Rattle.svo_top.specs.declared.outcome.Status.TheVariants.{Done, Usage, Input, Range, Device, Memory}
 use Rattle.svo_top.specs.declared.outcome.UsageKind.{UsageKind}
 use Rattle.svo_top.specs.declared.outcome.UsageKind.TheVariants.{Command, Options, Value}
 use Rattle.svo_top.specs.declared.outcome.InputKind.{InputKind}
-use Rattle.svo_top.specs.declared.outcome.InputKind.TheVariants.{NotPlain}
+use Rattle.svo_top.specs.declared.outcome.InputKind.TheVariants.{Ply}
 use Rattle.svo_top.specs.declared.outcome.RangeFault.{RangeFault}
-use Rattle.svo_top.specs.declared.outcome.RangeFault.TheVariants.{Grid, Triangle, Cube}
+use Rattle.svo_top.specs.declared.outcome.RangeFault.TheVariants.{Decimals, Grid, Triangle, Cube}
 use Rattle.svo_top.specs.declared.outcome.Device.{Device as DeviceName}
 use Rattle.svo_top.specs.declared.outcome.Device.TheVariants.{Read, Write}
 
@@ -20,8 +22,28 @@ usage_word Command = codes "command"
 usage_word Options = codes "options"
 usage_word Value = codes "value"
 
+-- a refused mesh is named as its kind is spelled
+abbrev pub ply_word : PlyKind → List ℕ
+ply_word kind.NotPly = codes "NotPly"
+ply_word kind.BadFormat = codes "BadFormat"
+ply_word kind.BadHeader = codes "BadHeader"
+ply_word kind.HeaderTooLarge = codes "HeaderTooLarge"
+ply_word kind.NoVertexElement = codes "NoVertexElement"
+ply_word kind.NoFaceElement = codes "NoFaceElement"
+ply_word kind.FaceFirst = codes "FaceFirst"
+ply_word kind.LineTooLong = codes "LineTooLong"
+ply_word kind.Truncated = codes "Truncated"
+ply_word kind.BadNumber = codes "BadNumber"
+ply_word kind.NotWhole = codes "NotWhole"
+ply_word kind.OutOfRange = codes "OutOfRange"
+ply_word kind.BadCount = codes "BadCount"
+ply_word kind.BadIndex = codes "BadIndex"
+ply_word kind.TokenTooLong = codes "TokenTooLong"
+ply_word kind.TrailingData = codes "TrailingData"
+ply_word kind.TooLong = codes "TooLong"
+
 abbrev pub input_word : InputKind → List ℕ
-input_word NotPlain = codes "NotPlain"
+input_word (Ply kind) = ply_word kind
 
 abbrev pub grid_word : GridFault → List ℕ
 grid_word Depth = codes "depth"
@@ -30,6 +52,7 @@ grid_word Cell = codes "cell"
 grid_word TooWide = codes "wide"
 
 abbrev pub range_word : RangeFault → List ℕ
+range_word Decimals = codes "decimals"
 range_word (Grid fault) = grid_word fault
 range_word Triangle = codes "triangle"
 range_word Cube = codes "cube"

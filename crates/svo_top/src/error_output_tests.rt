@@ -2,6 +2,7 @@
 
 use crate::{Device, InputKind, RangeFault, Status, UsageKind, run};
 use dev_traits::{MemSink, MemSource, PartFail};
+use ply_reader::PlyKind;
 use std::alloc::{AllocError, Global};
 use svo_base::{GridFault, Words};
 
@@ -33,7 +34,7 @@ const ENDINGS: &[(&[&str], &str, &[u64], usize, Status)] = &[
         &[],
         256,
         Status::Input {
-            kind: InputKind::NotPlain,
+            kind: InputKind::Ply(PlyKind::NotPly),
             place: 0,
         },
     ),

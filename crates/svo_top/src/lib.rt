@@ -4,7 +4,7 @@
 mod building;
 mod explaining;
 mod filled_cells;
-mod input_text;
+mod meshes;
 mod outcome;
 mod planning;
 mod questions;
@@ -16,6 +16,8 @@ pub use running::run;
 
 #[cfg(test)]
 mod error_output_tests;
+#[cfg(test)]
+mod mesh_tests;
 #[cfg(test)]
 mod question_tests;
 #[cfg(test)]

@@ -3,6 +3,7 @@
 ghost use Rattle.std.specs.Prelude.{◌≡◌};
 ghost use Rattle.svo_top.specs.Codes.{code_of_status};
 
+use ply_reader::PlyKind;
 use svo_base::GridFault;
 
 /// How a run ended.
@@ -12,8 +13,7 @@ pub enum Status {
     Done,
     /// The words are no command line of this program.
     Usage(UsageKind),
-    /// The input was refused. The place is the number of bytes before what is wrong, and 0 for
-    /// `NotPlain`.
+    /// The input was refused. The place is the number of bytes before what is wrong.
     Input { kind: InputKind, place: u64 },
     /// A number among the words is out of its range.
     Range(RangeFault),
@@ -37,13 +37,15 @@ pub enum UsageKind {
 /// What is wrong with the input.
 #[derive(Clone, Copy, Debug, PartialEq, Eq)]
 pub enum InputKind {
-    /// The text is not a mesh in the plain form.
-    NotPlain,
+    /// The text is no mesh in ASCII PLY.
+    Ply(PlyKind),
 }
 
 /// Which range a number is out of.
 #[derive(Clone, Copy, Debug, PartialEq, Eq)]
 pub enum RangeFault {
+    /// The number of decimals is not from 0 to 9.
+    Decimals,
     /// A limit of the grid.
     Grid(GridFault),
     /// A coordinate of the triangle has a size above 2^30.

@@ -1,13 +1,15 @@
-//! From the text of a mesh to the node file of the cells that it fills.
+//! From a mesh to the node file of the cells that it fills.
 
-ghost use Rattle.std.specs.Prelude.{◌≡◌, Err, IfOk};
-ghost use Rattle.svo_top.specs.Build.{IsNotPlain};
+ghost use Rattle.std.specs.Prelude.{◌≡◌, IfOk};
+ghost use Rattle.octree_specs.specs.FacedTriangles.{bare};
+ghost use Rattle.mesh_laws.specs.Meshes.{faced_of};
 ghost use Rattle.svo_top.specs.Planning.{IsImageFor};
 
 use crate::filled_cells::filled_cells;
+use crate::meshes::triangles;
 use plain_image::node_image;
-use plain_mesh::{PlainFault, PlainMesh};
-use std::alloc::Global;
+use ply_reader::WholeMesh;
+use std::alloc::{AllocError, Global};
 use svo_base::Grid;
 
 /// A node file in memory.
@@ -21,14 +23,11 @@ pub struct Plan {
     pub records: u64,
 }
 
-/// The node file of the cells of the grid that the mesh of a text fills. `NotPlain`: the text stands
-/// for no mesh. `Memory`: memory ran out.
-pub fn planned(alloc: Global, grid: &Grid, text: &[u8]) -> Result<Plan, PlainFault>
-    ensures found { IfOk result (λ plan. IsImageFor text.now grid.now plan.bytes.items plan.cells plan.records) }
-    ensures not_plain { result ≡ Err PlainFault.NotPlain → IsNotPlain text.now }
+/// The node file of the cells of the grid that a mesh fills. It fails for want of memory only.
+pub fn planned(alloc: Global, grid: &Grid, mesh: &WholeMesh) -> Result<Plan, AllocError>
+    ensures { IfOk result (λ plan. IsImageFor (bare (faced_of mesh.now)) grid.now plan.bytes.items plan.cells plan.records) }
 {
-    let mesh = PlainMesh::read(alloc, text)?;
-    let triangles = mesh.triangles(alloc)?;
+    let triangles = triangles(alloc, mesh)?;
     let cells = filled_cells(alloc, grid, &triangles)?;
     let image = node_image(alloc, grid, &cells)?;
     Ok(Plan {

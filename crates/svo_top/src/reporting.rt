@@ -3,13 +3,14 @@
 ghost use Rattle.std.specs.Prelude.{◌≡◌, [], ◌≤◌, ◌+◌, ◌++◌, length, codes, decimal};
 ghost use Rattle.arrayvec.specs.ArrayString.{array_string_len};
 ghost use Rattle.dev_traits.specs.Change.{change_of, IsKept};
-ghost use Rattle.svo_top.specs.Lines.{usage_word, input_word, grid_word, range_word, device_word, stop_line, built_line, Says};
+ghost use Rattle.svo_top.specs.Lines.{usage_word, input_word, ply_word, grid_word, range_word, device_word, stop_line, built_line, Says};
 ghost use Rattle.svo_top.specs.Endings.{line_of, status_of};
 
 use crate::outcome::{Device, InputKind, RangeFault, Status, UsageKind};
 use arrayvec::ArrayString;
 use dev_traits::ByteSink;
 use itoa::Buffer;
+use ply_reader::PlyKind;
 use svo_base::GridFault;
 
 /// A line; the longest has 89 bytes.
@@ -153,7 +154,32 @@ fn input_word(kind: InputKind) -> &'static str
     ensures short { length result.now ≤ 32 }
 {
     match kind {
-        InputKind::NotPlain => "NotPlain",
+        InputKind::Ply(kind) => ply_word(kind),
+    }
+}
+
+fn ply_word(kind: PlyKind) -> &'static str
+    ensures word { result.now ≡ ply_word kind }
+    ensures short { length result.now ≤ 32 }
+{
+    match kind {
+        PlyKind::NotPly => "NotPly",
+        PlyKind::BadFormat => "BadFormat",
+        PlyKind::BadHeader => "BadHeader",
+        PlyKind::HeaderTooLarge => "HeaderTooLarge",
+        PlyKind::NoVertexElement => "NoVertexElement",
+        PlyKind::NoFaceElement => "NoFaceElement",
+        PlyKind::FaceFirst => "FaceFirst",
+        PlyKind::LineTooLong => "LineTooLong",
+        PlyKind::Truncated => "Truncated",
+        PlyKind::BadNumber => "BadNumber",
+        PlyKind::NotWhole => "NotWhole",
+        PlyKind::OutOfRange => "OutOfRange",
+        PlyKind::BadCount => "BadCount",
+        PlyKind::BadIndex => "BadIndex",
+        PlyKind::TokenTooLong => "TokenTooLong",
+        PlyKind::TrailingData => "TrailingData",
+        PlyKind::TooLong => "TooLong",
     }
 }
 
@@ -162,6 +188,7 @@ fn range_word(fault: RangeFault) -> &'static str
     ensures short { length result.now ≤ 32 }
 {
     match fault {
+        RangeFault::Decimals => "decimals",
         RangeFault::Grid(fault) => grid_word(fault),
         RangeFault::Triangle => "triangle",
         RangeFault::Cube => "cube",

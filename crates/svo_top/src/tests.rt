@@ -1,7 +1,6 @@
-use crate::{Device, InputKind, RangeFault, Status, UsageKind, run};
+use crate::{Device, RangeFault, Status, UsageKind, run};
 use dev_traits::{MemSink, MemSource, PartFail};
 use std::alloc::{AllocError, Global};
-use std::process::Abort;
 use svo_base::{GridFault, Words};
 
 /// What a run left.
@@ -343,6 +342,33 @@ const WRONG_WORDS: &[(&[&str], Status, &str)] = &[
         &[
             "build",
             "--depth",
+            "13",
+            "--origin=0,0,0",
+            "--cell",
+            "1",
+            "--decimals",
+            "10",
+        ],
+        Status::Range(RangeFault::Decimals),
+        "range: decimals\n",
+    ),
+    (
+        &[
+            "build",
+            "--decimals=-1",
+            "--depth",
+            "1",
+            "--origin=0,0,0",
+            "--cell",
+            "1",
+        ],
+        Status::Range(RangeFault::Decimals),
+        "range: decimals\n",
+    ),
+    (
+        &[
+            "build",
+            "--depth",
             "1",
             "--origin=0,0,-1073741825",
             "--cell",
@@ -378,53 +404,6 @@ fn stops_where_the_words_are_wrong(rt: HostRuntime) {
         assert!(rt; ran.out.bytes().is_empty(), "nothing is put out for {line}");
         assert!(rt; ran.err.bytes() == line.as_bytes(), "the line {line}");
     }
-}
-
-/// Counts and lines of texts that are nearly plain.
-const NEARLY_PLAIN: &[(u64, &str, u64, &str)] = &[
-    (3, "0 0 0\n1 0  0\n0 1 0\n", 1, "3 0 1 2\n"),
-    (3, FLAT, 1, "3 0 1 2"),
-    (3, "0 0 0\r\n1 0 0\r\n0 1 0\r\n", 1, "3 0 1 2\r\n"),
-    (3, "-0 0 0\n1 0 0\n0 1 0\n", 1, "3 0 1 2\n"),
-    (3, "0 0 0\n01 0 0\n0 1 0\n", 1, "3 0 1 2\n"),
-    (3, "0 0 0\n+1 0 0\n0 1 0\n", 1, "3 0 1 2\n"),
-    (3, "0 0 0\n1 0 0\n0 1073741825 0\n", 1, "3 0 1 2\n"),
-    (3, FLAT, 1, "3 0 1 3\n"),
-    (3, FLAT, 1, "4 0 1 2 0\n"),
-    (4, FLAT, 1, "3 0 1 2\n"),
-    (2, FLAT, 1, "3 0 1 1\n"),
-    (3, FLAT, 2, "3 0 1 2\n"),
-    (3, FLAT, 0, "3 0 1 2\n"),
-    (3, FLAT, 1, "3 0 1 2\nx\n"),
-];
-
-#[test]
-fn refuses_texts_that_are_nearly_plain(rt: HostRuntime) {
-    for (vertices, vertex_lines, faces, face_lines) in NEARLY_PLAIN.iter().copied() {
-        let text = text_of(rt.alloc(), vertices, vertex_lines, faces, face_lines).expect(
-            &rt, "memory",
-        );
-        refuses(&rt, text.as_bytes());
-    }
-    refuses(&rt, b"");
-    refuses(&rt, b"PLY\nFORMAT ASCII 1.0\n");
-}
-
-fn refuses(rt: &(impl Abort + AllocGlobal), text: &[u8]) {
-    let ran = run_over(rt.alloc(), FLAT_GRID, text, &HONEST).expect(rt, "memory");
-    let refused = Status::Input {
-        kind: InputKind::NotPlain,
-        place: 0,
-    };
-    assert_eq!(rt; ran.status, refused, "for {text:?}");
-    assert!(rt;
-        ran.out.bytes().is_empty(),
-        "nothing is put out for {text:?}"
-    );
-    assert!(rt;
-        ran.err.bytes() == b"input: NotPlain at 0\n".as_slice(),
-        "the line for {text:?}"
-    );
 }
 
 /// Devices that fail, which of them is named, how many bytes were taken, and the line.

@@ -17,11 +17,15 @@ pub struct BuildWords {
     pub origin: [i64; 3],
     /// The side of a cell.
     pub cell: i64,
+    /// How many decimals of the coordinates are kept.
+    pub decimals: i64,
+    /// Whether further decimals are cut off.
+    pub cut: bool,
 }
 
 /// The options of `build`.
 #[tactic(auto, unfolding(crate::specs::Build::build_choices))]
-pub(crate) fn build_choices() -> [Choice<'static>; 3]
+pub(crate) fn build_choices() -> [Choice<'static>; 5]
     ensures table { result ≡ build_choices }
     ensures names { are_names result ≡ true }
 {
@@ -29,6 +33,8 @@ pub(crate) fn build_choices() -> [Choice<'static>; 3]
         Choice::required("depth"),
         Choice::required("origin"),
         Choice::required("cell"),
+        Choice::optional("decimals"),
+        Choice::flag("cut"),
     ]
 }
 
@@ -41,5 +47,7 @@ pub(crate) fn build_from(values: &Values) -> Option<BuildWords>
         depth: values.number("depth")?,
         origin: values.numbers("origin")?,
         cell: values.number("cell")?,
+        decimals: values.number_or(0, "decimals")?,
+        cut: values.is_set("cut"),
     })
 }

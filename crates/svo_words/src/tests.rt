@@ -17,6 +17,8 @@ const BUILT: BuildWords = BuildWords {
     depth: 4,
     origin: [-1, 2, 3],
     cell: 7,
+    decimals: 0,
+    cut: false,
 };
 
 /// Ways to write one build.
@@ -27,6 +29,13 @@ const BUILDS: &[&[&str]] = &[
     &["build", "--origin=-1,2,3", "--cell", "7", "--depth=4"],
     &["build", "--cell=7", "--depth=4", "--origin=-1,2,3"],
     &["build", "--cell", "07", "--origin=-001,2,3", "--depth", "4"],
+    &[
+        "build",
+        "--decimals=0",
+        "--cell=7",
+        "--depth=4",
+        "--origin=-1,2,3",
+    ],
 ];
 
 #[test]
@@ -38,6 +47,31 @@ fn builds_are_read_in_any_order(rt: HostRuntime) {
             Ok(_) => assert!(rt; false, "{words:?} are another command"),
             Err(fault) => assert!(rt; false, "{words:?} are refused: {fault}"),
         }
+    }
+}
+
+const CUT: BuildWords = BuildWords {
+    decimals: 9,
+    cut: true,
+    ..BUILT
+};
+
+#[test]
+fn decimals_and_a_cut_are_read(rt: HostRuntime) {
+    let words = [
+        "build",
+        "--cut",
+        "--depth=4",
+        "--decimals",
+        "9",
+        "--origin=-1,2,3",
+        "--cell=7",
+    ];
+    let list = words_of(rt.alloc(), &words).expect(&rt, "memory");
+    match read_words(rt.alloc(), &list) {
+        Ok(Command::Build(build)) => assert!(rt; build == CUT, "the values"),
+        Ok(_) => assert!(rt; false, "another command"),
+        Err(fault) => assert!(rt; false, "refused: {fault}"),
     }
 }
 
@@ -119,6 +153,51 @@ const REFUSED: &[(&[&str], WordFault)] = &[
     ),
     (
         &["build", "--depth", "1", "--origin=0,0,0", "--cell==1"],
+        WordFault::Value,
+    ),
+    (
+        &[
+            "build",
+            "--cut",
+            "--depth",
+            "1",
+            "--origin=0,0,0",
+            "--cell=1",
+            "--cut",
+        ],
+        WordFault::Options,
+    ),
+    (
+        &[
+            "build",
+            "--cut=1",
+            "--depth",
+            "1",
+            "--origin=0,0,0",
+            "--cell=1",
+        ],
+        WordFault::Options,
+    ),
+    (
+        &[
+            "build",
+            "--decimals=",
+            "--depth",
+            "1",
+            "--origin=0,0,0",
+            "--cell=1",
+        ],
+        WordFault::Options,
+    ),
+    (
+        &[
+            "build",
+            "--decimals=x",
+            "--depth",
+            "1",
+            "--origin=0,0,0",
+            "--cell=1",
+        ],
         WordFault::Value,
     ),
     (&["why", "--cube=0,0,0,2"], WordFault::Options),
