@@ -71,7 +71,7 @@ fn there_and_back<S: Scratch>(
 
 #[test]
 fn parcels_are_read_in_whole_blocks(rt: HostRuntime) {
-    const CASES: &[(usize, u64)] = &[(40, 101), (80, 51), (119, 51), (4096, 2)];
+    const CASES: &[(usize, u64)] = &[(40, 101), (80, 51), (119, 51), (4096, 1)];
     let mut block = [0; 4096];
     for &(size, reads) in CASES {
         let mut scratch = MemScratch::new(rt.alloc(), 3, 5000, &[]).expect(&rt, "memory");
