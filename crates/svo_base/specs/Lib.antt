@@ -1,2 +1,3 @@
 pub mod GridShape
 pub mod GridLimits
+pub mod Spans

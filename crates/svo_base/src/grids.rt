@@ -80,6 +80,18 @@ impl Grid {
         })
     }
 
+    /// The grid of numbers that are within the limits.
+    pub(crate) fn within(depth: u32, origin: [i64; 3], cell: u64) -> Grid
+        requires { IsGrid (record { depth = depth; origin = origin; cell = cell }) }
+        ensures { result ≡ record { depth = depth; origin = origin; cell = cell } }
+    {
+        Grid {
+            depth,
+            origin,
+            cell,
+        }
+    }
+
     /// How many times the grid is halved until its cells are reached.
     pub fn depth(&self) -> u32
         ensures value { result ≡ self.now.depth }

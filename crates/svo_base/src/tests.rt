@@ -1,6 +1,7 @@
-ghost use Rattle.std.specs.Prelude.{◌≡◌, ◌<◌};
+ghost use Rattle.std.specs.Prelude.{◌≡◌, ◌<◌, ◌≤◌, [], ◌∷◌};
+ghost use Rattle.svo_base.specs.Spans.{IsNearPoint, IsFitted};
 
-use crate::{Grid, GridFault, Steps, Words};
+use crate::{Grid, GridFault, Point, Span, Steps, Words};
 use std::marker::Brand;
 use std::sync::ledger::{Blank, Ledger};
 
@@ -30,6 +31,58 @@ fn grids_are_refused_at_their_first_broken_limit(rt: HostRuntime) {
         "its depth and origin"
     );
     assert_eq!(rt; grid.cell(), 1 << 20, "its cell");
+}
+
+/// The grid of a depth around two points.
+fn fitted(a: &Point, b: &Point, depth: u32) -> Grid
+    requires a { IsNearPoint a.now }
+    requires b { IsNearPoint b.now }
+    requires some { 1 ≤ depth }
+    requires deepest { depth ≤ 12 }
+    ensures { IsFitted depth (a.now ∷ b.now ∷ []) result }
+{
+    let mut span = Span::new();
+    span.add(a);
+    span.add(b);
+    span.grid(depth)
+}
+
+#[test]
+fn grids_are_fitted_to_points(rt: HostRuntime) {
+    const FAR: i32 = 1 << 30;
+    let corner = Point { x: 5, y: 0, z: 0 };
+    let grid = fitted(&corner, &Point { x: 9, y: 3, z: 0 }, 1);
+    let [x, y, z] = grid.origin();
+    assert_eq!(rt;
+        (x, y, z, grid.cell()),
+        (5, 0, 0, 2),
+        "four wide, two cells"
+    );
+    let grid = fitted(&corner, &Point { x: 9, y: -5, z: 0 }, 2);
+    let [x, y, z] = grid.origin();
+    assert_eq!(rt;
+        (x, y, z, grid.cell()),
+        (5, -5, 0, 2),
+        "five wide, four cells"
+    );
+    let grid = fitted(&corner, &corner, 12);
+    assert_eq!(rt; (grid.depth(), grid.cell()), (12, 1), "one point");
+    let low = Point {
+        x: -FAR,
+        y: -FAR,
+        z: -FAR,
+    };
+    let grid = fitted(&Point { x: FAR, y: 0, z: 0 }, &low, 1);
+    let [x, y, z] = grid.origin();
+    let far = i64::from(-FAR);
+    assert_eq!(rt;
+        (x, y, z, grid.cell()),
+        (far, far, far, 1 << 30),
+        "the farthest points"
+    );
+    let grid = Span::new().grid(3);
+    let [x, y, z] = grid.origin();
+    assert_eq!(rt; (x, y, z, grid.cell()), (0, 0, 0, 1), "no point");
 }
 
 #[test]
