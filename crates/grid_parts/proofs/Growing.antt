@@ -64,7 +64,7 @@ empty_next grid faced bound cells are slot =
       complete = set.complete;
     }
 
-none_filled : (grid : GridShape) (faced : List Faced) → AreFilledBelow grid faced 0 []
+pub none_filled : (grid : GridShape) (faced : List Faced) → AreFilledBelow grid faced 0 []
 none_filled grid faced =
     let set = none_below (IsMet grid faced) in
     record {
@@ -174,7 +174,7 @@ unfoldable pub cells_value : GridShape → List Faced → ℕ → List Cell
 cells_value grid faced zero = []
 cells_value grid faced (suc bound) = cells_value grid faced bound ++ cells_with bound (slot_value grid bound faced)
 
-slot_is : (grid : GridShape) (code : ℕ) (faced : List Faced) → IsSlotOf grid faced code (slot_value grid code faced)
+pub slot_is : (grid : GridShape) (code : ℕ) (faced : List Faced) → IsSlotOf grid faced code (slot_value grid code faced)
 unfolding slot_value
 slot_is grid code [] = record {
   none = λ _. All-nil (λ y. MeetsCell grid code y → ⊥);

@@ -1,5 +1,6 @@
 -- Slots that are cleared and then filled with one triangle after another are those of all of them.
-use Rattle.std.proofs.Common.{◌≡◌, ℕ, zero, suc, ◌+◌, ◌-◌, ◌*◌, ◌^◌, ◌<◌, ◌≤◌, List, [], ◌∷◌, get_or, min, arith, refl, sym, subst, ◌∙◌, add-one, inl, inr}
+use Rattle.std.proofs.Common.{◌≡◌, ℕ, zero, suc, ◌+◌, ◌-◌, ◌*◌, ◌^◌, ◌<◌, ◌≤◌, Bool, true, false, cond, List, [], ◌∷◌, map, length, get_or, min, arith, refl, sym, ap, subst, ◌∙◌, add-one, inl, inr}
+use Rattle.std.specs.List.{sum_by}
 use Rattle.std.proofs.lemmas.Bool.{cases_Bool, both_ways}
 use Rattle.std.proofs.lemmas.List.Elements.{All-nil}
 use Rattle.svo_base.specs.GridShape.{GridShape}
@@ -8,11 +9,14 @@ use Rattle.octree_specs.specs.Candidates.{has_good_candidate}
 use Rattle.octree_specs.specs.FacedTriangles.{Faced}
 use Rattle.octree_specs.specs.FilledCells.{MeetsCell, IsSlotOf}
 use Rattle.octree_specs.specs.NodeCube.{node_cube}
-use Rattle.octree_specs.specs.Parts.{part_with}
+use Rattle.octree_specs.specs.Parcels.{HoldAlike}
+use Rattle.octree_specs.specs.Parts.{part_with, is_in_part, part_of}
 use Rattle.morton_code.proofs.Children.{are_ranges}
 use Rattle.grid_parts.proofs.Growing.{joined, slot_joined, slot_passed}
+use Rattle.grid_parts.proofs.PartCells.{fills_part}
+use Rattle.tri_partition.proofs.BoxParcels.{sum_map}
 use Rattle.bit_grid.specs.Slots.{lesser_slot}
-use Rattle.morton_scan.specs.FilledParts.{HasSlotsFor, GrowsByTriangles}
+use Rattle.morton_scan.specs.FilledParts.{FillsFromParcels, HasSlotsFor, GrowsByTriangles, limited}
 use Rattle.morton_scan.specs.Putting.{ArePut, MeetsInPart, first_of_part}
 
 -- both say what a slot keeps
@@ -54,3 +58,39 @@ triangle_more grid split part x faced old new before are_put place within =
 
 pub grows_by_triangles : GrowsByTriangles
 grows_by_triangles = record { none = no_triangle; more = triangle_more }
+
+-- ---- from the parcels of a part
+
+limited_part : (grid : GridShape) (split part : ℕ) (faced : List Faced) → map limited (part_of grid split part faced) ≡ part_of grid split part (map limited faced)
+unfolding is_in_part
+limited_part grid split part [] = refl
+limited_part grid split part (x ∷ rest) = kept (is_in_part grid split part x) (part_of grid split part rest) (limited_part grid split part rest)
+  where
+    kept : (b : Bool) (others : List Faced) → map limited others ≡ part_of grid split part (map limited rest)
+        → map limited (cond b (x ∷ others) others) ≡ cond b (limited x ∷ part_of grid split part (map limited rest)) (part_of grid split part (map limited rest))
+    kept true others same = ap (λ l. limited x ∷ l) same
+    kept false others same = same
+
+limited_alike : (grid : GridShape) (split part : ℕ) (parcels faced : List Faced) → HoldAlike parcels (part_of grid split part faced)
+    → HoldAlike (map limited parcels) (part_of grid split part (map limited faced))
+limited_alike grid split part parcels faced alike = λ f.
+    sum_map f limited parcels
+    ∙ (alike (λ x. f (limited x)) ∙ (sym (sum_map f limited (part_of grid split part faced)) ∙ ap (sum_by f) (limited_part grid split part faced)))
+
+all_slots : (grid : GridShape) (split part : ℕ) (parcels faced : List Faced) (slots : List ℕ) → split ≤ grid.depth
+    → HoldAlike parcels (part_of grid split part faced) → HasSlotsFor grid split part (map limited parcels) slots → HasSlotsFor grid split part (map limited faced) slots
+all_slots grid split part parcels faced slots within alike has place inside =
+    let code : ℕ = first_of_part grid split part + place in
+    fills_part grid split code (get_or slots place 0) (map limited faced) (map limited parcels) within
+    (subst (λ p. HoldAlike (map limited parcels) (part_of grid split p (map limited faced))) (sym (in_part grid split part place inside)) (limited_alike grid split part parcels faced alike))
+    (has place inside)
+
+nothing_limited : (faced : List Faced) → ((k : ℕ) (d : Faced) → k < length faced → (get_or faced k d).face < 2 ^ 32 - 1) → map limited faced ≡ faced
+nothing_limited [] all = refl
+nothing_limited (x ∷ rest) all =
+    let here : min x.face (2 ^ 32 - 2) ≡ x.face = omega (arith, all 0 x (omega arith)) in
+    let later = nothing_limited rest (λ k d within. all (suc k) d (omega (arith, within))) in
+    λ i. record { triangle = x.triangle; face = here i } ∷ later i
+
+pub fills_from_parcels : FillsFromParcels
+fills_from_parcels = record { all = all_slots; unlimited = λ faced all. nothing_limited faced (λ k d within. all k d within) }

@@ -6,5 +6,6 @@ pub mod FilledParts
 pub mod Planes
 pub mod ReachedCubes
 pub mod ReachedOctants
+pub mod OtherOctants
 pub mod SmallerNodes
 pub mod TakenParcels

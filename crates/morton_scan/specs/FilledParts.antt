@@ -1,10 +1,11 @@
 -- The slots of a part.
-use Rattle.std.specs.Prelude.{◌≡◌, [], ◌∷◌, ◌++◌, ℕ, ◌+◌, ◌-◌, ◌*◌, ◌^◌, ◌<◌, ◌≤◌, Bool, min, List, map, slice_index, Option, Result, IfSome, OnOk}
+use Rattle.std.specs.Prelude.{◌≡◌, [], ◌∷◌, ◌++◌, ℕ, ◌+◌, ◌-◌, ◌*◌, ◌^◌, ◌<◌, ◌≤◌, Bool, min, List, All, map, slice_index, Option, Result, IfSome, OnOk}
 use Rattle.std.specs.List.{sum_by}
 use Rattle.svo_base.specs.GridShape.{GridShape}
 use Rattle.octree_specs.specs.FacedTriangles.{Faced}
 use Rattle.octree_specs.specs.FilledCells.{IsSlotOf}
-use Rattle.octree_specs.specs.Parts.{passing, PassWhereMet}
+use Rattle.octree_specs.specs.Parcels.{HoldAlike}
+use Rattle.octree_specs.specs.Parts.{part_of, passing, PassWhereMet}
 use Rattle.tri_partition.specs.PartStreams.{part_stream, parcels_in}
 use Rattle.morton_scan.specs.Putting.{ArePut, MeetsInPart, first_of_part}
 
@@ -43,3 +44,9 @@ pub record TakesParcels {T E : Type 0} (grid : GridShape) (split part : ℕ) (to
   pub tests : (test : Faced → ℕ → ℕ → Bool) → TestEachParcel grid test → after ≤ before + tests_of grid split part test parcels
   pub front : IfSome told (λ streams. (rest : List Faced) × (parcels_in (part_stream streams part) ≡ parcels ++ rest))
   pub all : OnOk result (IfSome told (λ streams. parcels ≡ parcels_in (part_stream streams part)))
+
+-- the slots that the parcels of a part give, in any order, are those of all triangles; where no face is the greatest, nothing was limited
+pub record FillsFromParcels : Type 0 where
+  pub all : (grid : GridShape) (split part : ℕ) (parcels faced : List Faced) (slots : List ℕ) → split ≤ grid.depth
+      → HoldAlike parcels (part_of grid split part faced) → HasSlotsFor grid split part (map limited parcels) slots → HasSlotsFor grid split part (map limited faced) slots
+  pub unlimited : (faced : List Faced) → All (λ x. x.face < 2 ^ 32 - 1) faced → map limited faced ≡ faced

@@ -1,5 +1,5 @@
 -- The box around a triangle, and which cubes it reaches.
-use Rattle.std.specs.Prelude.{ℕ, zero, suc, ◌/◌, ◌%◌, Bool, ◌&&◌, ℤ, int_le}
+use Rattle.std.specs.Prelude.{◌≡◌, ◌≢◌, ◌<◌, true, ℕ, zero, suc, ◌/◌, ◌%◌, Bool, ◌&&◌, ℤ, int_le}
 use Rattle.std.specs.Int.{int_min, int_max}
 use Rattle.svo_base.specs.declared.shapes.Cube.{Cube}
 use Rattle.svo_base.specs.declared.shapes.Triangle.{Triangle}
@@ -40,3 +40,10 @@ has_half halves (suc _) = halves.upper
 -- the octant at a place among its siblings
 unfoldable pub has_octant : Octants → ℕ → Bool
 has_octant octants octant = has_half octants.x (octant % 2) && has_half octants.y (octant / 2 % 2) && has_half octants.z (octant / 4 % 2)
+
+-- another octant is reached beside this one
+pub record HasOther (octants : Octants) (octant : ℕ) : Type 0 where
+  pub other : ℕ
+  pub below : other < 8
+  pub apart : other ≢ octant
+  pub reached : has_octant octants other ≡ true

@@ -15,7 +15,7 @@ mod parts;
 
 pub use cells::{FilledCell, next_code};
 pub use filling::fill_triangle;
-pub use laws::slots_grow_by_triangles;
+pub use laws::{parcels_fill_their_slots, slots_grow_by_triangles};
 pub use part_slots::PartSlots;
 pub use parts::fill_part;
 

@@ -1,7 +1,8 @@
 //! Which children of a node a triangle's box reaches.
 
-ghost use Rattle.std.specs.Prelude.{◌≡◌, ◌≢◌, ℕ, ◌<◌, false, IfSome};
-ghost use Rattle.morton_scan.specs.Reaching.{has_half, has_octant, octants_of};
+ghost use Rattle.std.specs.Prelude.{◌≡◌, ◌≢◌, ℕ, ◌<◌, true, false, IfSome};
+ghost use Rattle.std.specs.Option.{IfNone};
+ghost use Rattle.morton_scan.specs.Reaching.{has_half, has_octant, octants_of, HasOther};
 
 use crate::bounds::Bounds;
 use svo_base::Cube;
@@ -21,10 +22,11 @@ impl Halves {
         if half == 0 { self.lower } else { self.upper }
     }
 
-    /// The half that alone may be reached.
+    /// The half that alone may be reached, or `None` where both are.
     fn only(&self) -> Option<u64>
         ensures half { IfSome result (λ half. half < 2) }
         ensures only { IfSome result (λ half. (other : ℕ) → other < 2 → other ≢ half → has_half self.now other ≡ false) }
+        ensures both { IfNone result ((self.now.lower ≡ true) × (self.now.upper ≡ true)) }
     {
         if !self.upper {
             Some(0)
@@ -65,10 +67,12 @@ impl Octants {
         self.x.has(octant % 2) && self.y.has(octant / 2 % 2) && self.z.has(octant / 4 % 2)
     }
 
-    /// The place of the child that alone may be reached.
+    /// The place of the child that alone may be reached, or `None` where no child is reached, or more
+    /// than one.
     pub fn only(&self) -> Option<u64>
         ensures octant { IfSome result (λ octant. octant < 8) }
         ensures only { IfSome result (λ octant. (other : ℕ) → other < 8 → other ≢ octant → has_octant self.now other ≡ false) }
+        ensures others { IfNone result ((octant : ℕ) → octant < 8 → has_octant self.now octant ≡ true → HasOther self.now octant) }
     {
         let x = self.x.only()?;
         let y = self.y.only()?;

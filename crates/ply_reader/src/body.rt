@@ -89,6 +89,8 @@ impl Body {
         ensures run { MeshRun give_vertex (body_reading (reading tokens.old) self.old) (body_reading (reading tokens.new) self.new) result }
         ensures counted { IfOk result (CountsVertex (body_reading (reading tokens.old) self.old) (body_reading (reading tokens.new) self.new)) }
         ensures used_up { self.old.vertices ≡ 0 → result ≡ Ok None }
+        ensures faces { self.new.faces ≡ self.old.faces }
+        ensures fan { self.new.fan ≡ self.old.fan }
     {
         if self.vertices == 0 {
             return Ok(None);

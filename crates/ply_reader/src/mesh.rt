@@ -67,6 +67,8 @@ impl MeshReader {
         ensures call { MeshCall give_vertex (mesh_reading tokens.old self.old) (mesh_reading tokens.new self.new) result }
         ensures counted { IfOk result (CountsVertex (mesh_reading tokens.old self.old).body (mesh_reading tokens.new self.new).body) }
         ensures used_up { self.old.stopped ≡ None → self.old.body.vertices ≡ 0 → result ≡ Ok None }
+        ensures faces { self.new.body.faces ≡ self.old.body.faces }
+        ensures fan { self.new.body.fan ≡ self.old.body.fan }
     {
         if let Some(fault) = self.stopped {
             return Err(fault);

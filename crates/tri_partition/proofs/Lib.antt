@@ -1,3 +1,11 @@
 pub mod Numbers
 pub mod Held
 pub mod NextParcels
+pub mod PieceBytes
+pub mod ReachedParts
+pub mod SpilledRuns
+pub mod PartSums
+pub mod BoxParcels
+pub mod SpilledParts
+pub mod ReadBack
+pub mod Callers

@@ -1,2 +1,5 @@
+pub mod Laws
 pub mod PartStreams
+pub mod Partitioning
 pub mod Reading
+pub mod Spans

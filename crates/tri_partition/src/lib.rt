@@ -1,10 +1,18 @@
 //! The triangles of a mesh by the parts of a grid that their boxes reach, on scratch.
 #![tactic(auto)]
 
+mod laws;
+mod partition;
 mod pieces;
+mod pool;
 mod reader;
+mod spans;
 
+pub use laws::{parcels_are_spilled_in_steps, parts_are_spilled, spilled_parcels_are_read_back};
+pub use partition::Partition;
 pub use reader::PartReader;
 
+#[cfg(test)]
+mod spill_tests;
 #[cfg(test)]
 mod tests;

@@ -1,2 +1,1 @@
-pub mod GrownStreams
 pub mod Vertices

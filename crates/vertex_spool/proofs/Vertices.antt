@@ -1,19 +1,17 @@
 -- Points in bytes, one after another.
-use Rattle.std.proofs.Common.{◌≡◌, ◌<◌, ◌+◌, ◌*◌, ◌/◌, ◌%◌, ℕ, zero, suc, ℤ, List, [], ◌∷◌, ◌++◌, length, drop, get_or, Some, None, refl, arith, sym, ap, ◌∙◌}
+use Rattle.std.proofs.Common.{◌≡◌, ◌<◌, ◌+◌, ◌*◌, ◌/◌, ◌%◌, ℕ, zero, suc, List, [], ◌∷◌, ◌++◌, length, drop, get_or, Some, None, refl, arith, sym, ap, ◌∙◌}
 use Rattle.std.specs.Prelude.{Option, IfSome, slice_index_or}
 use Rattle.std.specs.List.{All}
-use Rattle.std.specs.Int.{w32, cast_signed}
 use Rattle.std.proofs.lemmas.List.{length-append, drop-drop, drop_at}
 use Rattle.std.proofs.lemmas.List.Elements.{All-get_or}
 use Rattle.std.proofs.lemmas.List.Concat.{flat_map-cons}
-use Rattle.byteorder.specs.Endian.{little_number}
 use Rattle.svo_base.specs.declared.shapes.Point.{Point}
 use Rattle.room_plan.specs.declared.elements.VertexBlock.{VertexBlock}
-use Rattle.octree_specs.specs.Parcels.{coordinate_bytes, point_bytes, vertex_bytes}
+use Rattle.octree_specs.specs.Parcels.{point_bytes, vertex_bytes}
 use Rattle.dev_traits.specs.Streams.{stream_of}
-use Rattle.room_plan.specs.Coordinates.{coordinate_at, point_at}
-use Rattle.room_plan.proofs.Numbers.{reads_coordinate}
-use Rattle.vertex_spool.specs.Spooling.{IsPoint, SpoolView, HasPoints}
+use Rattle.room_plan.specs.Coordinates.{IsPoint, coordinate_at, point_at}
+use Rattle.room_plan.proofs.Numbers.{reads_point, point_moved, length_point}
+use Rattle.vertex_spool.specs.Spooling.{SpoolView, HasPoints}
 use Rattle.vertex_spool.specs.Window.{IsBlockOf, AreBlocksOf, point_in}
 
 -- ---- a point of a block that is kept
@@ -30,28 +28,6 @@ point_is bytes block index is number inside =
     λ i. record { x = at_x i; y = at_y i; z = at_z i }
 
 -- ---- points read back from their bytes
-
-reads_point : (p : Point) (rest : List ℕ) → IsPoint p → point_at (point_bytes p ++ rest) 0 ≡ p
-unfolding point_bytes
-reads_point p rest is =
-    let x = reads_coordinate p.x (coordinate_bytes p.y ++ (coordinate_bytes p.z ++ rest)) is.x in
-    let y = reads_coordinate p.y (coordinate_bytes p.z ++ rest) is.y in
-    let z = reads_coordinate p.z rest is.z in
-    λ i. record { x = x i; y = y i; z = z i }
-
--- numbers from a place on
-point_moved : (bytes : List ℕ) (place : ℕ) → point_at bytes place ≡ point_at (drop (4 * place) bytes) 0
-point_moved bytes place =
-    let read : List ℕ → ℤ = λ l. cast_signed w32 (little_number 4 l) in
-    let one : 4 * (place + 1) ≡ 4 * place + 4 = omega arith in
-    let two : 4 * (place + 2) ≡ 4 * place + 8 = omega arith in
-    let y : drop (4 * (place + 1)) bytes ≡ drop 4 (drop (4 * place) bytes) = ap (λ n. drop n bytes) one ∙ sym (drop-drop 4 (4 * place) bytes) in
-    let z : drop (4 * (place + 2)) bytes ≡ drop 8 (drop (4 * place) bytes) = ap (λ n. drop n bytes) two ∙ sym (drop-drop 8 (4 * place) bytes) in
-    λ i. record { x = read (drop (4 * place) bytes); y = read (y i); z = read (z i) }
-
-length_point : (p : Point) → length (point_bytes p) ≡ 12
-unfolding point_bytes
-length_point p = refl
 
 pub length_vertices : (points : List Point) → length (vertex_bytes points) ≡ 12 * length points
 length_vertices [] = refl

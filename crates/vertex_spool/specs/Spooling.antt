@@ -1,9 +1,8 @@
 -- Points on their way to a stream, and back.
-use Rattle.std.specs.Prelude.{◌≡◌, ℕ, ◌*◌, Bool, List, length, Option, FitsSigned}
-use Rattle.std.specs.Int.{w32}
-use Rattle.svo_base.specs.declared.shapes.Point.{Point}
+use Rattle.std.specs.Prelude.{◌≡◌, ℕ, ◌*◌, Bool, List, length, Option}
 use Rattle.dev_traits.specs.Streams.{grown_known}
 use Rattle.room_plan.specs.declared.elements.VertexBlock.{VertexBlock}
+pub use Rattle.room_plan.specs.Coordinates.{IsPoint}
 use Rattle.vertex_spool.specs.Window.{AreBlocksOf}
 
 -- how many points were put, the bytes that wait to be appended to the stream, whether it was closed, and the blocks that are kept
@@ -21,9 +20,3 @@ with_waiting told waiting = grown_known told 0 waiting
 pub record HasPoints (bytes : List ℕ) (spool : SpoolView) : Type 0 where
   pub long : length bytes ≡ 12 * spool.count
   pub kept : AreBlocksOf bytes spool.window
-
--- coordinates of 32 bits
-pub record IsPoint (p : Point) : Type 0 where
-  pub x : FitsSigned w32 p.x
-  pub y : FitsSigned w32 p.y
-  pub z : FitsSigned w32 p.z

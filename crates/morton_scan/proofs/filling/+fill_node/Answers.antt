@@ -62,7 +62,7 @@ loop-octant-preserved g t c =
           )
       | else-has w ↦ rw (w.slots-is, w.blocks-is, w.tests-is) (
         put_unmet_octant c.args.grid.now c.args.put.now.triangle c.narrowed-node.result c.loop-octant.octant c.args.put.now.first c.args.put.now.face c.args.slots.now c.loop-octant.slots
-            c.narrowed-node.ensures.node (c.reached_octants-octants.ensures c.args.put.now.triangle c.requires.bounds c.loop-octant.octant c.loop-octant-test.true (sym c.has.ensures ∙ w.if-has.false)) c.loop-octant.invariant.0,
+            c.narrowed-node.ensures.node (c.reached_octants-octants.ensures.unmet c.args.put.now.triangle c.requires.bounds c.loop-octant.octant c.loop-octant-test.true (sym c.has.ensures ∙ w.if-has.false)) c.loop-octant.invariant.0,
         c.loop-octant.invariant.1,
         λ test pass. child_tests test c.args.tests.now c.loop-octant.tests c.loop-octant.tests (c.narrowed-node.result.height - 1) c.narrowed-node.result.code c.loop-octant.octant (c.narrowed-node.result.height - 1) (8 * c.narrowed-node.result.code + c.loop-octant.octant)
             refl refl (c.loop-octant.invariant.2 test pass) (omega arith),

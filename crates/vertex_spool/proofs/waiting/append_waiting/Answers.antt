@@ -1,7 +1,7 @@
 -- Where nothing waits, nothing is appended.
 use Rattle.std.proofs.Common.{take, sym, ap, ◌∙◌}
 use Rattle.vertex_spool.specs.Spooling.{with_waiting}
-use Rattle.vertex_spool.proofs.GrownStreams.{known_none}
+use Rattle.dev_traits.proofs.GrownStreams.{known_none}
 use Rattle.vertex_spool.proofs.waiting.append_waiting.Goals as goal
 
 pub returns-then-used-eq0-clause-told : goal.returns-then-used-eq0-clause-told

@@ -1,6 +1,6 @@
 -- Nothing waits once it was appended.
 use Rattle.std.proofs.Common.{◌∙◌}
-use Rattle.vertex_spool.proofs.GrownStreams.{known_none}
+use Rattle.dev_traits.proofs.GrownStreams.{known_none}
 use Rattle.vertex_spool.proofs.waiting.make_room.Goals as goal
 
 pub returns-clause-told : goal.returns-clause-told

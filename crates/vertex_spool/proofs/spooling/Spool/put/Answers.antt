@@ -3,7 +3,7 @@ use Rattle.std.proofs.Common.{◌≡◌, take, sym, ap, ◌∙◌}
 use Rattle.octree_specs.specs.Parcels.{point_bytes}
 use Rattle.dev_traits.specs.Streams.{grown_known}
 use Rattle.vertex_spool.specs.Spooling.{with_waiting}
-use Rattle.vertex_spool.proofs.GrownStreams.{known_twice}
+use Rattle.dev_traits.proofs.GrownStreams.{known_twice}
 use Rattle.vertex_spool.proofs.spooling.Spool.put.Goals as goal
 
 pub returns-clause-put : goal.returns-clause-put

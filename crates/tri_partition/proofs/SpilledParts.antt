@@ -1,0 +1,234 @@
+-- What a stream holds once the parcels of triangles were appended.
+use Rattle.std.proofs.Common.{◌≡◌, ◌≢◌, ◌<◌, ◌+◌, ◌^◌, ◌==◌, ℕ, zero, suc, Bool, true, false, cond, List, [], ◌∷◌, ◌++◌, map, filter, inl, inr, length, Some, None, refl, arith, sym, ap, subst, ◌∙◌, append_assoc, append-nil}
+use Rattle.std.specs.Prelude.{Option}
+use Rattle.std.specs.List.{flat_map, sum_by, range_with_len}
+use Rattle.std.proofs.Math.Nat.{zero-add}
+use Rattle.std.proofs.lemmas.Bool.{cases_Bool, eqb-true, eq-eqb}
+use Rattle.std.proofs.lemmas.Bool.Decides.{leb_tells}
+use Rattle.std.proofs.lemmas.List.{get_or_past, nil_from_length}
+use Rattle.std.proofs.lemmas.List.Concat.{flat_map-cons}
+use Rattle.svo_base.specs.GridShape.{GridShape}
+use Rattle.dev_traits.specs.Streams.{stream_of, grown}
+use Rattle.dev_traits.proofs.GrownStreams.{length_grown, grown_here, grown_elsewhere}
+use Rattle.octree_specs.specs.FacedTriangles.{Faced}
+use Rattle.octree_specs.specs.Parcels.{parcel_bytes, HoldAlike}
+use Rattle.octree_specs.specs.Parts.{is_in_part, part_of}
+use Rattle.room_plan.specs.declared.elements.Parcel.{Parcel}
+use Rattle.tri_partition.specs.PartStreams.{faced_of, part_stream}
+use Rattle.tri_partition.specs.Partitioning.{bytes_of, parcel_of, parcels_of, appended}
+use Rattle.tri_partition.specs.Laws.{SpillsInSteps, IsPartitioned, PartsAreSpilled}
+use Rattle.tri_partition.proofs.PartSums.{total, total_same, total_cond, sum_filter}
+use Rattle.tri_partition.proofs.SpilledRuns.{none_spilled, spills_more}
+use Rattle.tri_partition.proofs.BoxParcels.{sum_cons, sum_map, sum_flat}
+
+-- ---- one stream among those that grow
+
+pub length_appended : (streams : List (List ℕ)) (parcels : List Parcel) → length (appended streams parcels) ≡ length streams
+unfolding appended
+length_appended streams [] = refl
+length_appended streams (p ∷ rest) = length_appended (grown streams (1 + p.part) (bytes_of p)) rest ∙ length_grown streams (1 + p.part) (bytes_of p)
+
+-- a parcel goes to a stream
+goes_to : ℕ → Parcel → Bool
+goes_to stream p = (1 + p.part) == stream
+
+differ_from : (a b : ℕ) → (a == b) ≡ false → a ≢ b
+differ_from a b fails same = both_fail (a == b) fails (eq-eqb a b same)
+  where
+    both_fail : (test : Bool) → test ≡ false → test ≡ true → ⊥
+    both_fail test p q = cc
+
+-- a stream grows by the parcels that go to it, in their order
+appended_at : (streams : List (List ℕ)) (parcels : List Parcel) (stream : ℕ) → stream < length streams
+    → stream_of (appended streams parcels) stream ≡ stream_of streams stream ++ flat_map bytes_of (filter (goes_to stream) parcels)
+unfolding appended goes_to
+appended_at streams [] stream within = sym (append-nil (stream_of streams stream))
+appended_at streams (p ∷ rest) stream within =
+    let next : List (List ℕ) = grown streams (1 + p.part) (bytes_of p) in
+    let later = appended_at next rest stream (omega (arith, within, length_grown streams (1 + p.part) (bytes_of p))) in
+    later ∙ elim (cases_Bool ((1 + p.part) == stream)) [
+      | inl here ↦
+          let same : 1 + p.part ≡ stream = eqb-true (1 + p.part) stream here in
+          let grew : stream_of next stream ≡ stream_of streams stream ++ bytes_of p =
+          subst (λ n. stream_of (grown streams n (bytes_of p)) stream ≡ stream_of streams stream ++ bytes_of p) (sym same) (grown_here streams stream (bytes_of p) within) in
+          ap (λ l. l ++ flat_map bytes_of (filter (goes_to stream) rest)) grew
+          ∙ (append_assoc (stream_of streams stream) (bytes_of p) (flat_map bytes_of (filter (goes_to stream) rest))
+          ∙ ap (λ l. stream_of streams stream ++ l) (sym (flat_map-cons bytes_of p (filter (goes_to stream) rest)) ∙ ap (λ b. flat_map bytes_of (cond b (p ∷ filter (goes_to stream) rest) (filter (goes_to stream) rest))) (sym here)))
+      | inr other ↦
+          ap (λ l. l ++ flat_map bytes_of (filter (goes_to stream) rest)) (grown_elsewhere streams (1 + p.part) stream (bytes_of p) (differ_from (1 + p.part) stream other))
+          ∙ ap (λ b. stream_of streams stream ++ flat_map bytes_of (cond b (p ∷ filter (goes_to stream) rest) (filter (goes_to stream) rest))) (sym other)
+    ]
+
+-- ---- what is counted of the parcels that go to a stream
+
+kept_or_not : {A : Type 0} (f : A → ℕ) (b : Bool) (x : A) (kept : List A) (n : ℕ) → sum_by f kept ≡ n → sum_by f (cond b (x ∷ kept) kept) ≡ cond b (f x) 0 + n
+kept_or_not f true x kept n is = sum_cons f x kept ∙ ap (λ m. f x + m) is
+kept_or_not f false x kept n is = is ∙ sym (zero-add n)
+
+pub sum_kept : {A : Type 0} (f : A → ℕ) (p : A → Bool) (xs : List A) → sum_by f (filter p xs) ≡ sum_by (λ x. cond (p x) (f x) 0) xs
+sum_kept f p [] = refl
+sum_kept f p (x ∷ xs) =
+    kept_or_not f (p x) x (filter p xs) (sum_by (λ y. cond (p y) (f y) 0) xs) (sum_kept f p xs) ∙ sym (sum_cons (λ y. cond (p y) (f y) 0) x xs)
+
+-- no part below so many has the stream
+total_nowhere : (p : ℕ → Bool) (stream value n : ℕ) → ((k : ℕ) → k < n → 1 + k ≢ stream) → total (λ k. cond (p k) (cond ((1 + k) == stream) value 0) 0) n ≡ 0
+total_nowhere p stream value n none =
+    total_same (λ k. cond (p k) (cond ((1 + k) == stream) value 0) 0) (λ k. cond false (value + k) 0) n (λ k within. nothing (p k) ((1 + k) == stream) (unlike k (none k within)))
+    ∙ total_cond false (λ k. value + k) n
+  where
+    unlike : (k : ℕ) → 1 + k ≢ stream → ((1 + k) == stream) ≡ false
+    unlike k differ = elim (cases_Bool ((1 + k) == stream)) [ inl same ↦ absurd (differ (eqb-true (1 + k) stream same)) | inr other ↦ other ]
+
+    nothing : (a b : Bool) → b ≡ false → cond a (cond b value 0) 0 ≡ 0
+    nothing true b fails = rw fails refl
+    nothing false b fails = refl
+
+-- one of them has it
+total_somewhere : (p : ℕ → Bool) (part value n : ℕ) → part < n → total (λ k. cond (p k) (cond ((1 + k) == (1 + part)) value 0) 0) n ≡ cond (p part) value 0
+unfolding total
+total_somewhere p part value zero within = absurd (omega (arith, within))
+total_somewhere p part value (suc n) within = elim (cases_Bool (n == part)) [
+  | inl last ↦
+      let same : n ≡ part = eqb-true n part last in
+      let before = total_nowhere p (1 + part) value n (λ k below is. absurd (omega (arith, below, is, same))) in
+      let here : cond (p n) (cond ((1 + n) == (1 + part)) value 0) 0 ≡ cond (p part) value 0 =
+      ap (λ b. cond (p n) (cond b value 0) 0) (eq-eqb (1 + n) (1 + part) (ap (λ k. 1 + k) same)) ∙ ap (λ k. cond (p k) value 0) same in
+      omega (arith, before, here)
+  | inr other ↦
+      let differ : n ≢ part = differ_from n part other in
+      let before = total_somewhere p part value n (omega (arith, within, differ)) in
+      let here : cond (p n) (cond ((1 + n) == (1 + part)) value 0) 0 ≡ 0 = not_here (p n) ((1 + n) == (1 + part)) (unlike (λ same. differ (omega (arith, same)))) in
+      omega (arith, before, here)
+]
+  where
+    not_here : (a b : Bool) → b ≡ false → cond a (cond b value 0) 0 ≡ 0
+    not_here true b fails = rw fails refl
+    not_here false b fails = refl
+
+    unlike : ((1 + n ≡ 1 + part) → ⊥) → ((1 + n) == (1 + part)) ≡ false
+    unlike differ = elim (cases_Bool ((1 + n) == (1 + part))) [ inl same ↦ absurd (differ (eqb-true (1 + n) (1 + part) same)) | inr fails ↦ fails ]
+
+-- of the parcels of one triangle
+count_of_one : (f : Parcel → ℕ) (grid : GridShape) (split : ℕ) (x : Faced) → sum_by f (parcels_of grid split x) ≡ total (λ k. cond (is_in_part grid split k x) (f (parcel_of x k)) 0) (8 ^ split)
+unfolding parcels_of
+count_of_one f grid split x =
+    sum_map f (parcel_of x) (filter (λ part. is_in_part grid split part x) (range_with_len 0 (8 ^ split)))
+    ∙ sum_filter (λ k. f (parcel_of x k)) (λ part. is_in_part grid split part x) (8 ^ split)
+
+-- of those of all triangles
+sum_same : {A : Type 0} (f g : A → ℕ) (xs : List A) → ((x : A) → f x ≡ g x) → sum_by f xs ≡ sum_by g xs
+sum_same f g [] same = refl
+sum_same f g (x ∷ xs) same =
+    let here : f x ≡ g x = same x in
+    let later : sum_by f xs ≡ sum_by g xs = sum_same f g xs same in
+    sum_cons f x xs ∙ (omega (arith, here, later) ∙ sym (sum_cons g x xs))
+
+count_of_all : (f : Parcel → ℕ) (grid : GridShape) (split : ℕ) (faced : List Faced)
+    → sum_by f (flat_map (parcels_of grid split) faced) ≡ sum_by (λ x. total (λ k. cond (is_in_part grid split k x) (f (parcel_of x k)) 0) (8 ^ split)) faced
+count_of_all f grid split faced =
+    sum_flat f (parcels_of grid split) faced
+    ∙ sum_same (λ x. sum_by f (parcels_of grid split x)) (λ x. total (λ k. cond (is_in_part grid split k x) (f (parcel_of x k)) 0) (8 ^ split)) faced (count_of_one f grid split)
+
+-- the triangle of a parcel
+faced_is : (x : Faced) (part : ℕ) → faced_of (parcel_of x part) ≡ x
+unfolding faced_of parcel_of
+faced_is x part = refl
+
+part_is : (x : Faced) (part : ℕ) → (parcel_of x part).part ≡ part
+unfolding parcel_of
+part_is x part = refl
+
+-- a count of the parcels that go to a stream
+counted_to : (f : Faced → ℕ) (stream : ℕ) → Parcel → ℕ
+counted_to f stream p = cond (goes_to stream p) (f (faced_of p)) 0
+
+counted_parcel : (f : Faced → ℕ) (stream : ℕ) (x : Faced) (k : ℕ) → counted_to f stream (parcel_of x k) ≡ cond ((1 + k) == stream) (f x) 0
+unfolding counted_to goes_to
+counted_parcel f stream x k = ap (λ n. cond ((1 + n) == stream) (f (faced_of (parcel_of x k))) 0) (part_is x k) ∙ ap (λ y. cond ((1 + k) == stream) (f y) 0) (faced_is x k)
+
+count_to : (f : Faced → ℕ) (stream : ℕ) (grid : GridShape) (split : ℕ) (faced : List Faced)
+    → sum_by (counted_to f stream) (flat_map (parcels_of grid split) faced) ≡ sum_by (λ x. total (λ k. cond (is_in_part grid split k x) (cond ((1 + k) == stream) (f x) 0) 0) (8 ^ split)) faced
+count_to f stream grid split faced =
+    count_of_all (counted_to f stream) grid split faced
+    ∙ sum_same (λ x. total (λ k. cond (is_in_part grid split k x) (counted_to f stream (parcel_of x k)) 0) (8 ^ split)) (λ x. total (λ k. cond (is_in_part grid split k x) (cond ((1 + k) == stream) (f x) 0) 0) (8 ^ split)) faced
+    (λ x. total_same (λ k. cond (is_in_part grid split k x) (counted_to f stream (parcel_of x k)) 0) (λ k. cond (is_in_part grid split k x) (cond ((1 + k) == stream) (f x) 0) 0) (8 ^ split)
+    (λ k within. ap (λ n. cond (is_in_part grid split k x) n 0) (counted_parcel f stream x k)))
+
+-- ---- what a stream has grown by
+
+bytes_stand : (parcels : List Parcel) → flat_map bytes_of parcels ≡ flat_map parcel_bytes (map faced_of parcels)
+bytes_stand [] = refl
+bytes_stand (p ∷ rest) = flat_map-cons bytes_of p rest ∙ (ap (λ l. bytes_of p ++ l) (bytes_stand rest) ∙ sym (flat_map-cons parcel_bytes (faced_of p) (map faced_of rest)))
+
+goes_to_sum : (f : Faced → ℕ) (stream : ℕ) (parcels : List Parcel) → sum_by f (map faced_of (filter (goes_to stream) parcels)) ≡ sum_by (counted_to f stream) parcels
+unfolding counted_to
+goes_to_sum f stream parcels = sum_map f faced_of (filter (goes_to stream) parcels) ∙ sum_kept (λ p. f (faced_of p)) (goes_to stream) parcels
+
+part_alike : (grid : GridShape) (split part : ℕ) (faced : List Faced) (parcels : List Parcel) → part < 8 ^ split → HoldAlike parcels (flat_map (parcels_of grid split) faced)
+    → HoldAlike (map faced_of (filter (goes_to (1 + part)) parcels)) (part_of grid split part faced)
+part_alike grid split part faced parcels within alike = λ f.
+    goes_to_sum f (1 + part) parcels
+    ∙ (alike (counted_to f (1 + part))
+    ∙ (count_to f (1 + part) grid split faced
+    ∙ (sum_same (λ x. total (λ k. cond (is_in_part grid split k x) (cond ((1 + k) == (1 + part)) (f x) 0) 0) (8 ^ split)) (λ x. cond (is_in_part grid split part x) (f x) 0) faced
+    (λ x. total_somewhere (λ k. is_in_part grid split k x) part (f x) (8 ^ split) within)
+    ∙ sym (sum_kept f (is_in_part grid split part) faced))))
+
+sum_zero : {A : Type 0} (xs : List A) → sum_by (λ _. 0) xs ≡ 0
+sum_zero [] = refl
+sum_zero (x ∷ xs) = sum_cons (λ _. 0) x xs ∙ omega (arith, sum_zero xs)
+
+pub sum_ones : {A : Type 0} (xs : List A) → sum_by (λ _. 1) xs ≡ length xs
+sum_ones [] = refl
+sum_ones (x ∷ xs) = sum_cons (λ _. 1) x xs ∙ omega (arith, sum_ones xs)
+
+-- no parcel goes to the stream of no part
+none_goes : (grid : GridShape) (split stream : ℕ) (faced : List Faced) (parcels : List Parcel) → ((k : ℕ) → k < 8 ^ split → 1 + k ≢ stream)
+    → HoldAlike parcels (flat_map (parcels_of grid split) faced) → map faced_of (filter (goes_to stream) parcels) ≡ []
+none_goes grid split stream faced parcels none alike =
+    nil_from_length (map faced_of (filter (goes_to stream) parcels)) (
+    sym (sum_ones (map faced_of (filter (goes_to stream) parcels)))
+    ∙ (goes_to_sum (λ _. 1) stream parcels
+    ∙ (alike (counted_to (λ _. 1) stream)
+    ∙ (count_to (λ _. 1) stream grid split faced
+    ∙ (sum_same (λ x. total (λ k. cond (is_in_part grid split k x) (cond ((1 + k) == stream) 1 0) 0) (8 ^ split)) (λ _. 0) faced (λ x. total_nowhere (λ k. is_in_part grid split k x) stream 1 (8 ^ split) none)
+    ∙ sum_zero faced)))))
+
+stays : (grid : GridShape) (split stream : ℕ) (faced : List Faced) (first : List (List ℕ)) (parcels : List Parcel) → ((k : ℕ) → k < 8 ^ split → 1 + k ≢ stream)
+    → HoldAlike parcels (flat_map (parcels_of grid split) faced) → stream_of (appended first parcels) stream ≡ stream_of first stream
+stays grid split stream faced first parcels none alike = elim (leb_tells (suc stream) (length first)) [
+  | inl inside ↦
+      appended_at first parcels stream (omega (arith, inside.1))
+      ∙ (ap (λ l. stream_of first stream ++ l) (bytes_stand (filter (goes_to stream) parcels) ∙ ap (flat_map parcel_bytes) (none_goes grid split stream faced parcels none alike))
+      ∙ append-nil (stream_of first stream))
+  | inr outside ↦
+      get_or_past (appended first parcels) stream [] (omega (arith, outside.1, length_appended first parcels)) ∙ sym (get_or_past first stream [] (omega (arith, outside.1)))
+]
+
+some_told : {A : Type 0} {a b : A} → Some a ≡ Some b → a ≡ b
+some_told {A} {a} {b} same = ap (λ o. from_some a o) same
+  where
+    from_some : A → Option A → A
+    from_some other None = other
+    from_some other (Some x) = x
+
+partitioned : (grid : GridShape) (split : ℕ) (faced : List Faced) (first now : List (List ℕ)) (parcels : List Parcel) → now ≡ appended first parcels
+    → HoldAlike parcels (flat_map (parcels_of grid split) faced) → IsPartitioned grid split faced first now
+partitioned grid split faced first now parcels is alike = subst (λ streams. IsPartitioned grid split faced first streams) (sym is) (record {
+  many = length_appended first parcels;
+  parts = λ part inside within. record {
+    stand = map faced_of (filter (goes_to (1 + part)) parcels);
+    bytes = appended_at first parcels (1 + part) within ∙ ap (λ l. part_stream first part ++ l) (bytes_stand (filter (goes_to (1 + part)) parcels));
+    alike = part_alike grid split part faced parcels inside alike;
+  };
+  front = stays grid split 0 faced first parcels (λ k within same. absurd (omega (arith, same))) alike;
+  behind = λ stream beyond. stays grid split stream faced first parcels (λ k within same. absurd (omega (arith, same, within, beyond))) alike;
+})
+
+pub parts_spilled : PartsAreSpilled
+parts_spilled grid split faced first now spills =
+    partitioned grid split faced first now spills.parcels (some_told spills.grew)
+    (λ f. ap (sum_by f) (sym (append-nil spills.parcels)) ∙ spills.alike f)
+
+pub in_steps : SpillsInSteps
+in_steps = record { none = none_spilled; more = spills_more }
