@@ -129,7 +129,7 @@ module _ (leaves : List Leaf) (leaf : Leaf) (last : ℕ) (behind : 0 < length le
       }
 
 -- leaves in ascending order behind the last, all below a limit
-pub Follow : ℕ → ℕ → List Leaf → Type 0
+unfoldable pub Follow : ℕ → ℕ → List Leaf → Type 0
 Follow last limit [] = Unit {0}
 Follow last limit (leaf ∷ rest) = (last < leaf.node) × (leaf.node < limit) × Follow leaf.node limit rest
 
@@ -154,3 +154,14 @@ front_of_all (leaf ∷ rest) leaves above last queues words inside follow are =
     subst (λ l. IsFrontOf words (words_of l (suc above))) (append_assoc leaves (leaf ∷ []) rest)
     (front_further words on.words (words_of ((leaves ++ leaf ∷ []) ++ rest) (suc above)) on.front_is
     (front_further on.words put.words (words_of ((leaves ++ leaf ∷ []) ++ rest) (suc above)) put.front_is next))
+
+-- a leaf that is put, and those that follow it
+pub front_of_pushed : (leaves : List Leaf) (leaf : Leaf) (rest : List Leaf) (above height last : ℕ) (queues : ℕ → List QueueEntry) (words : List ℕ) → AreQueued leaves above height last queues words
+    → leaf.node / 8 ^ suc height ≡ last / 8 ^ suc height → (0 < length leaves → last < leaf.node) → (0 < length leaves → 0 < height → leaf.node / 8 ^ height ≢ last / 8 ^ height)
+    → leaf.node < 8 ^ suc (above + height) → Follow leaf.node (8 ^ suc (above + height)) rest → IsFrontOf words (words_of (leaves ++ leaf ∷ rest) (suc (above + height)))
+front_of_pushed leaves leaf rest above height last queues words are same behind apart inside follow =
+    let put : HasRisen (leaves ++ leaf ∷ []) (above + height) 0 leaf.node words = pushed_at leaves leaf last behind above height queues words same apart are in
+    let next : IsFrontOf put.words (words_of ((leaves ++ leaf ∷ []) ++ rest) (suc (above + height))) =
+    front_of_all rest (leaves ++ leaf ∷ []) (above + height) leaf.node put.queues put.words inside follow put.are in
+    subst (λ l. IsFrontOf words (words_of l (suc (above + height)))) (append_assoc leaves (leaf ∷ []) rest)
+    (front_further words put.words (words_of ((leaves ++ leaf ∷ []) ++ rest) (suc (above + height))) put.front_is next)

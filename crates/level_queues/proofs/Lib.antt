@@ -11,7 +11,10 @@ pub mod Bounds
 pub mod Turns
 pub mod PushedCells
 pub mod Continuing
+pub mod Ahead
+pub mod Grown
 pub mod Ending
 pub mod WholeFile
+pub mod FileFronts
 pub mod PairedCells
 pub mod Digits

@@ -1,5 +1,5 @@
 -- A cell is pushed behind others.
-use Rattle.std.proofs.Common.{◌≡◌, ◌≢◌, ℕ, suc, ◌+◌, ◌-◌, ◌*◌, ◌/◌, ◌^◌, ◌<◌, ◌==◌, cond, List, [], ◌∷◌, ◌++◌, length, get_or, set, sym, ap, ◌∙◌, arith, add-one}
+use Rattle.std.proofs.Common.{◌≡◌, ◌≢◌, ◌≤◌, ℕ, zero, suc, ◌+◌, ◌-◌, ◌*◌, ◌/◌, ◌^◌, ◌<◌, ◌==◌, cond, List, [], ◌∷◌, ◌++◌, length, get_or, set, sym, ap, ◌∙◌, arith, add-one}
 use Rattle.std.proofs.lemmas.List.{map-append}
 use Rattle.std.proofs.lemmas.Bool.{ne_eqb}
 use Rattle.octree_specs.specs.Cells.{Cell}
@@ -15,6 +15,12 @@ face_leaves-more cells cell = map-append (λ (cell : Cell). record { node = cell
 
 pub lowest_later : (n top : ℕ) → cond (n + 1 == 0) top 0 ≡ 0
 lowest_later n top = ap (λ b. cond b top 0) (ne_eqb (n + 1) 0 (λ same. omega (arith, same)))
+
+pub lowest_within : (n top : ℕ) → cond (n == 0) top 0 ≤ top
+lowest_within zero top = omega arith
+lowest_within (suc n) top =
+    let e : cond (suc n == 0) top 0 ≡ 0 = ap (λ b. cond b top 0) (ne_eqb (suc n) 0 (λ same. omega (arith, same))) in
+    omega (arith, e)
 
 -- a cell comes behind those before, and leaves them below this height
 pub record IsBehind (count last code height : ℕ) : Type 0 where

@@ -12,11 +12,11 @@ use Rattle.room_plan.specs.declared.queues.QueueEntry.{QueueEntry}
 use Rattle.level_queues.specs.GivenWords.{with_words, words_in}
 use Rattle.level_queues.specs.Queued.{bits_of}
 
-append-none : (told : Option (List ℕ)) → append_known told [] ≡ told
+pub append-none : (told : Option (List ℕ)) → append_known told [] ≡ told
 append-none None = refl
 append-none (Some x) = ap Some (append-nil x)
 
-append-twice : (told : Option (List ℕ)) (xs ys : List ℕ) → append_known (append_known told xs) ys ≡ append_known told (xs ++ ys)
+pub append-twice : (told : Option (List ℕ)) (xs ys : List ℕ) → append_known (append_known told xs) ys ≡ append_known told (xs ++ ys)
 append-twice None xs ys = refl
 append-twice (Some x) xs ys = ap Some (append_assoc x xs ys)
 

@@ -1,3 +1,4 @@
 pub mod GivenWords
 pub mod Queued
 pub mod Pushed
+pub mod Fronts

@@ -2,9 +2,10 @@
 
 ghost use Rattle.std.specs.Prelude.{◌≡◌, ◌+◌, ◌^◌, ◌<◌, ◌≤◌, length, take, drop, OnOk, IfOk};
 ghost use Rattle.dev_traits.specs.Faults.{HasCause};
-ghost use Rattle.node_file.specs.Writing.{given};
+ghost use Rattle.node_file.specs.Writing.{given, waiting};
 ghost use Rattle.level_queues.specs.GivenWords.{with_words, words_in};
 ghost use Rattle.level_queues.specs.Queued.{bits_of};
+ghost use Rattle.level_queues.specs.Fronts.{GrewByWords};
 
 use dev_traits::{ByteSink, Failed};
 use node_file::NodeWriter;
@@ -26,6 +27,7 @@ pub fn write_entries<O: ByteSink>(
     ensures given { OnOk result (given writer.new ≡ with_words (given writer.old) (words_in (take count (drop from queues.now.entries)))) }
     ensures records { OnOk result (writer.new.records ≡ writer.old.records + count) }
     ensures sink { writer.new.sink.ghost_name ≡ writer.old.sink.ghost_name }
+    ensures front { GrewByWords (O.written writer.old.sink.now) (O.written writer.new.sink.now) (waiting writer.old) (words_in (take count (drop from queues.now.entries))) }
     ensures cause { HasCause (O.faults writer.old.sink.now) (O.faults writer.new.sink.now) result }
 {
     let mut bits = 0;

@@ -1,6 +1,6 @@
 //! The queues of the levels.
 
-ghost use Rattle.std.specs.Prelude.{◌≡◌, ◌+◌, ◌-◌, ◌*◌, ◌/◌, ◌%◌, ◌^◌, ◌<◌, ◌≤◌, ℕ, length, slice_index_or};
+ghost use Rattle.std.specs.Prelude.{◌≡◌, ◌+◌, ◌-◌, ◌*◌, ◌/◌, ◌%◌, ◌^◌, ◌<◌, ◌≤◌, ℕ, suc, length, slice_index_or};
 
 use crate::codes::{ancestor, turning_height};
 use crate::entries::write_entries;
@@ -39,12 +39,13 @@ pub struct LevelQueues<'a> {
 impl<'a> LevelQueues<'a> {
     ghost use Rattle.std.specs.Prelude.{[], ◌∷◌, ◌++◌, ◌≢◌, List, slice_set, IfOk, OnOk};
     ghost use Rattle.dev_traits.specs.Faults.{HasCause};
-    ghost use Rattle.node_file.specs.Writing.{given};
+    ghost use Rattle.node_file.specs.Writing.{given, waiting};
     ghost use Rattle.level_queues.specs.GivenWords.{with_words, words_in};
     ghost use Rattle.octree_specs.specs.Cells.{Cell};
     ghost use Rattle.octree_specs.specs.Formats.{file_words};
     ghost use Rattle.octree_specs.specs.Octree.{Leaf};
-    ghost use Rattle.level_queues.specs.Queued.{queue_of, bits_of};
+    ghost use Rattle.level_queues.specs.Queued.{queue_of, bits_of, written_of};
+    ghost use Rattle.level_queues.specs.Fronts.{Ascend, GrewByWords, GrewToward};
     ghost use Rattle.level_queues.specs.Pushed.{IsQueuedAt, IsQueued, lowest_of, GoesOn};
 
     /// Empty queues for an octree of this depth, over entries whose contents do not matter.
@@ -68,7 +69,9 @@ impl<'a> LevelQueues<'a> {
 
     /// Puts a filled cell with its face behind those before. The words of each level that it leaves
     /// are given to the writer, and the numbers of moves by `moves` and by `placed` are at most the
-    /// depth. It is refused only where the writer's sink counted a fault.
+    /// depth. It is refused only where the writer's sink counted a fault. At every answer the sink grew
+    /// by a front of what waited and of the words that come next in the file, whatever cells follow
+    /// this one.
     ///
     /// Cells come in ascending order, nothing failed before, and the writer was given no other word
     /// than these queues gave it.
@@ -93,6 +96,9 @@ impl<'a> LevelQueues<'a> {
         ensures cells { OnOk result (self.new.cells ≡ self.old.cells + 1) }
         ensures placed { self.new.queues.placed ≤ self.old.queues.placed + self.old.depth }
         ensures moves { moves.new ≤ moves.old + self.old.depth }
+        ensures front { (cells : List Cell) → (words : List ℕ) → IsQueued cells self.old words
+            → (later : List Cell) → Ascend self.old.depth (cells ++ record { code = code; face = face } ∷ later)
+            → GrewToward words (file_words 2 self.old.depth (cells ++ record { code = code; face = face } ∷ later)) (O.written writer.old.sink.now) (O.written writer.new.sink.now) (waiting writer.old) }
         ensures cause { HasCause (O.faults writer.old.sink.now) (O.faults writer.new.sink.now) result }
     {
         let target = self.target(code);
@@ -103,7 +109,9 @@ impl<'a> LevelQueues<'a> {
 
     /// Gives the words that still wait and the root's word, and answers how many words there are in
     /// all, and how many cells were pushed: the words added since `new` are those of the file of
-    /// format 2 of the pushed cells. It is refused only where the writer's sink counted a fault.
+    /// format 2 of the pushed cells. It is refused only where the writer's sink counted a fault. At
+    /// every answer the sink grew by a front of what waited and of the words that come next in that
+    /// file.
     ///
     /// The conditions are those of `push`. Afterwards the queues are only dropped.
     pub fn finish<O: ByteSink, L: Ledger>(
@@ -121,6 +129,8 @@ impl<'a> LevelQueues<'a> {
         ensures sink { writer.new.sink.ghost_name ≡ writer.old.sink.ghost_name }
         ensures placed { self.new.queues.placed ≤ self.old.queues.placed + self.old.depth }
         ensures moves { moves.new ≤ moves.old + self.old.depth }
+        ensures front { (cells : List Cell) → (words : List ℕ) → IsQueued cells self.old words
+            → GrewToward words (file_words 2 self.old.depth cells) (O.written writer.old.sink.now) (O.written writer.new.sink.now) (waiting writer.old) }
         ensures cause { HasCause (O.faults writer.old.sink.now) (O.faults writer.new.sink.now) result }
     {
         let top = self.depth - 1;
@@ -174,6 +184,8 @@ impl<'a> LevelQueues<'a> {
         ensures cells { self.new.cells ≡ self.old.cells }
         ensures placed { self.new.queues.placed + lowest_of self.old ≤ self.old.queues.placed + target }
         ensures moves { moves.new + lowest_of self.old ≤ moves.old + target }
+        ensures front { (leaves : List Leaf) → (words : List ℕ) → IsQueuedAt leaves (lowest_of self.old) self.old words
+            → GrewToward words (written_of leaves (self.old.depth - suc target) target (self.old.last / 8 ^ suc target)) (O.written writer.old.sink.now) (O.written writer.new.sink.now) (waiting writer.old) }
         ensures cause { HasCause (O.faults writer.old.sink.now) (O.faults writer.new.sink.now) result }
     {
         for height in self.lowest()..target {
@@ -201,6 +213,7 @@ impl<'a> LevelQueues<'a> {
         ensures cells { self.new.cells ≡ self.old.cells }
         ensures placed { self.new.queues.placed ≤ self.old.queues.placed + 1 }
         ensures moves { moves.new ≤ moves.old + 1 }
+        ensures front { GrewByWords (O.written writer.old.sink.now) (O.written writer.new.sink.now) (waiting writer.old) (words_in (queue_of self.old.queues.entries self.old.counts height)) }
         ensures cause { HasCause (O.faults writer.old.sink.now) (O.faults writer.new.sink.now) result }
     {
         let word = self.write_row(height, writer)?;
@@ -228,6 +241,7 @@ impl<'a> LevelQueues<'a> {
         ensures depth { self.new.depth ≡ self.old.depth }
         ensures last { self.new.last ≡ self.old.last }
         ensures cells { self.new.cells ≡ self.old.cells }
+        ensures front { GrewByWords (O.written writer.old.sink.now) (O.written writer.new.sink.now) (waiting writer.old) (words_in (queue_of self.old.queues.entries self.old.counts height)) }
         ensures cause { HasCause (O.faults writer.old.sink.now) (O.faults writer.new.sink.now) result }
     {
         let row = height as usize;

@@ -4,6 +4,8 @@
 ghost use Rattle.std.specs.Prelude.{◌≡◌, ◌∷◌, ◌+◌, ◌*◌, ◌/◌, ◌^◌, ◌<◌, ◌≤◌, [], ℕ, length, map, OnOk};
 ghost use Rattle.std.specs.Io.KnownBytes.{append_known};
 ghost use Rattle.octree_specs.specs.OctreeFile.{image_of};
+ghost use Rattle.node_file.specs.Waiting.{GrewByFront};
+ghost use Rattle.level_queues.specs.Fronts.{Ascend};
 
 use crate::{LevelQueues, ancestor, turning_height};
 use dev_traits::{ByteSink, Failed, MemSink, PartFail};
@@ -28,7 +30,8 @@ fn cells_part_at_their_highest_differing_digit(rt: HostRuntime) {
 }
 
 /// Puts the file of these cells, each a code and a face. It is refused where the sink fails, and where
-/// the cells do not ascend or are none of the grid's.
+/// the cells do not ascend, are none of the grid's, or have no face. Whatever the answer, the sink grew
+/// by a front of the file of the cells, if they ascend.
 fn put_file<O: ByteSink, L: Ledger>(
     sink: &mut O,
     block: &mut [u8],
@@ -40,6 +43,8 @@ fn put_file<O: ByteSink, L: Ledger>(
     requires block { 48 ≤ length block.old }
     requires room { length entries.old ≡ 8 * grid.now.depth }
     ensures whole { OnOk result (O.written sink.new ≡ append_known (O.written sink.old) (image_of 2 grid.now (map (λ (cell : ℕ × ℕ). record { code = cell.0; face = cell.1 }) cells.now))) }
+    ensures front { Ascend grid.now.depth (map (λ (cell : ℕ × ℕ). record { code = cell.0; face = cell.1 }) cells.now)
+        → GrewByFront (O.written sink.old) (O.written sink.new) (image_of 2 grid.now (map (λ (cell : ℕ × ℕ). record { code = cell.0; face = cell.1 }) cells.now)) }
     ensures moves { moves.new ≤ moves.old + 2 * (14 * grid.now.depth + 1) * (length cells.now + 1) }
 {
     let depth = grid.depth();

@@ -1,5 +1,5 @@
 -- Fronts of bytes that were written one after another.
-use Rattle.std.proofs.Common.{◌≡◌, ℕ, ◌+◌, List, ◌++◌, length, take, drop, Some, None, refl, sym, ap, ◌∙◌, append_assoc, append-nil}
+use Rattle.std.proofs.Common.{◌≡◌, ℕ, ◌+◌, List, [], ◌++◌, length, take, drop, Some, None, refl, sym, ap, subst, ◌∙◌, append_assoc, append-nil}
 use Rattle.std.specs.Prelude.{Option}
 use Rattle.std.specs.Io.KnownBytes.{append_known}
 use Rattle.std.proofs.Math.Seq.{take-append-add, take-append_seam, take-length}
@@ -37,3 +37,23 @@ front_of_longer a b w t grew =
     let parts : w ++ t ≡ take k w ++ (drop k w ++ t) = ap (λ l. l ++ t) (sym (take-append-drop k w)) ∙ append_assoc (take k w) (drop k w) t in
     let front : take (length (take k w)) (w ++ t) ≡ take k w = ap (take (length (take k w))) parts ∙ take-append_seam (take k w) (drop k w ++ t) in
     (length (take k w), grew.1 ∙ ap (append_known a) (sym front))
+
+append_none : (told : Option (List ℕ)) → append_known told [] ≡ told
+append_none None = refl
+append_none (Some x) = ap Some (append-nil x)
+
+pub append_twice : (told : Option (List ℕ)) (xs ys : List ℕ) → append_known (append_known told xs) ys ≡ append_known told (xs ++ ys)
+append_twice None xs ys = refl
+append_twice (Some x) xs ys = ap Some (append_assoc x xs ys)
+
+-- a front of all that is to come, and then one of what was still to come
+pub front_onward : (a b c : Option (List ℕ)) (w p : List ℕ) → GrewByFront a b w → append_known b p ≡ append_known a w → GrewByFront b c p → GrewByFront a c w
+front_onward a b c w p first whole last =
+    subst (λ l. GrewByFront a c l) (append-nil w) (front_of_more a b c w p [] first (whole ∙ sym (append_none (append_known a w))) last)
+
+-- and then one of what waited, where more was to come behind it
+pub front_within : (a b c : Option (List ℕ)) (whole given rest p : List ℕ) → given ++ rest ≡ whole → GrewByFront a b whole → append_known b p ≡ append_known a given → GrewByFront b c p → GrewByFront a c whole
+front_within a b c whole given rest p parts first same last =
+    front_onward a b c whole (p ++ rest) first
+    (sym (append_twice b p rest) ∙ (ap (λ o. append_known o rest) same ∙ (append_twice a given rest ∙ ap (append_known a) parts)))
+    (front_of_longer b c p rest last)

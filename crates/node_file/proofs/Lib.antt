@@ -1,3 +1,5 @@
 pub mod Joining
 pub mod Fronts
 pub mod Fields
+pub mod Frames
+pub mod Loads

@@ -42,7 +42,7 @@ pub fn read_trailer(bytes: &[u8; 32]) -> Option<Totals>
 }
 
 /// The format and the grid of a header.
-fn header_parts(bytes: &[u8; 48]) -> Option<(u32, Grid)>
+pub fn header_parts(bytes: &[u8; 48]) -> Option<(u32, Grid)>
     ensures found { IfSome result (λ parts. IsHeader parts.0 parts.1 bytes.now) }
     ensures missing { IfNone result ((format : ℕ) → (grid : GridShape) → IsHeader format grid bytes.now → ⊥) }
 {
@@ -57,7 +57,7 @@ fn header_parts(bytes: &[u8; 48]) -> Option<(u32, Grid)>
 }
 
 /// The format and the numbers of a trailer.
-fn trailer_parts(bytes: &[u8; 32]) -> Option<(u32, Totals)>
+pub fn trailer_parts(bytes: &[u8; 32]) -> Option<(u32, Totals)>
     ensures found { IfSome result (λ parts. IsTrailer parts.0 parts.1 bytes.now) }
     ensures missing { IfNone result ((format : ℕ) → (totals : Totals) → IsTrailer format totals bytes.now → ⊥) }
 {
@@ -101,7 +101,7 @@ fn totals_at(bytes: &[u8; 32]) -> Totals
 }
 
 /// The number in the eight bytes from a place on.
-fn number_at(bytes: &[u8], at: usize) -> u64
+pub fn number_at(bytes: &[u8], at: usize) -> u64
     requires { at + 8 ≤ length bytes.now }
     ensures { result ≡ from_le_bytes w64 (take 8 (drop at bytes.now)) }
 {

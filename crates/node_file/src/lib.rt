@@ -4,13 +4,19 @@
 mod blocks;
 mod framing;
 mod layout;
+mod loading;
 mod records;
+mod stored;
 mod writer;
 
 pub use framing::{read_format, read_header, read_trailer};
 pub use layout::{header_bytes, trailer_bytes};
+pub use loading::{Frame, LoadFault};
 pub use records::{Records, Totals};
+pub use stored::Nodes;
 pub use writer::NodeWriter;
 
+#[cfg(test)]
+mod store_tests;
 #[cfg(test)]
 mod tests;

@@ -28,6 +28,10 @@ pub trait Records {
     /// The calls of `word` so far, in a counter of 64 bits that stays at its last value.
     ghost looked: { Self → ℕ };
 
+    /// The name of the loan that the file is read through, where it is read through one. No call
+    /// changes it, so that whoever lent a store knows what it is once the loan is over.
+    ghost lender: { Self → ℕ } = { λ _. 0 };
+
     /// The grid whose cells the file keeps.
     fn grid(&self) -> Grid
         ensures value { result ≡ (file self.now).grid }
@@ -51,5 +55,6 @@ pub trait Records {
         ensures same { file self.new ≡ file self.old }
         ensures reads { reads.new ≡ reads.old + 1 }
         ensures looked { looked self.new ≡ counted (looked self.old) }
+        ensures lender { lender self.new ≡ lender self.old }
         ensures cause { HasCause (faults self.old) (faults self.new) result };
 }

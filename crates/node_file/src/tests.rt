@@ -5,6 +5,7 @@ ghost use Rattle.std.specs.Prelude.{◌≡◌, ◌∷◌, [], OnOk, ◌+◌, ◌
 ghost use Rattle.dev_traits.specs.Faults.{HasCause, counted};
 ghost use Rattle.octree_specs.specs.OctreeFile.{frame_of};
 ghost use Rattle.std.specs.Io.KnownBytes.{append_known};
+ghost use Rattle.node_file.specs.Waiting.{GrewByFront};
 ghost use Rattle.svo_base.specs.GridShape.{IsGrid};
 
 use crate::{
@@ -124,7 +125,7 @@ fn a_caller_reads_words_by_number(rt: HostRuntime) {
     );
 }
 
-/// Puts the file of two words.
+/// Puts the file of two words. Whatever the answer, the sink grew by a front of it.
 fn put_two<O: ByteSink>(
     sink: &mut O,
     block: &mut [u8],
@@ -135,6 +136,7 @@ fn put_two<O: ByteSink>(
     requires { 48 ≤ length block.old }
     ensures whole { OnOk result (O.written sink.new ≡ append_known (O.written sink.old) (frame_of 2 grid.now (words.0 ∷ words.1 ∷ []) cells)) }
     ensures records { IfOk result (λ records. records ≡ 2) }
+    ensures front { GrewByFront (O.written sink.old) (O.written sink.new) (frame_of 2 grid.now (words.0 ∷ words.1 ∷ []) cells) }
     ensures cause { HasCause (O.faults sink.old) (O.faults sink.new) result }
 {
     let mut writer = NodeWriter::begin(sink, block, grid)?;

@@ -38,6 +38,7 @@ impl<'a, O: ByteSink> NodeWriter<'a, O> {
         requires { 48 ≤ length block.old }
         ensures sink { IfOk result (λ w. w.sink.ghost_name ≡ sink.entry.ghost_name) }
         ensures given { IfOk result (λ w. given w ≡ append_known (O.written sink.old) (header_of 2 grid.now)) }
+        ensures unwritten { IfOk result (λ w. O.written w.sink.now ≡ O.written sink.old) }
         ensures faults { IfOk result (λ w. O.faults w.sink.now ≡ O.faults sink.old) }
         ensures records { IfOk result (λ w. w.records ≡ 0) }
         ensures made { OnErr result ⊥ }

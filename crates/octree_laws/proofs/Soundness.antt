@@ -26,7 +26,7 @@ some_bit word (suc count) some = elim (cases_Bool (has_bit word count)) [
 ]
 
 -- a bit that is set is one of the mask's
-rank_below : (word place : ℕ) → place < 8 → has_bit word place ≡ true → count_ones (word % 2 ^ place) < count_ones (word % 256)
+pub rank_below : (word place : ℕ) → place < 8 → has_bit word place ≡ true → count_ones (word % 2 ^ place) < count_ones (word % 256)
 rank_below word place octant bit =
     let rest : (rest : ℕ) × (rest + 1 + place ≡ 8) = (7 - place, omega arith) in
     let quotient : ℕ = word / 2 ^ place in

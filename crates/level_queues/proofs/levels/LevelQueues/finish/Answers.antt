@@ -1,11 +1,15 @@
 -- All is closed but the root.
-use Rattle.std.proofs.Common.{◌≡◌, ◌-◌, ◌+◌, ◌*◌, ◌++◌, ℕ, length, ap, ◌∙◌, subst, arith}
+use Rattle.std.proofs.Common.{◌≡◌, ◌-◌, ◌+◌, ◌*◌, ◌/◌, ◌^◌, suc, ◌++◌, ℕ, length, ap, ◌∙◌, subst, arith}
 use Rattle.std.proofs.lemmas.List.{length-map}
 use Rattle.octree_specs.specs.Cells.{Cell}
 use Rattle.octree_specs.specs.Formats.{face_leaves, file_words}
-use Rattle.node_file.specs.Writing.{given}
-use Rattle.level_queues.specs.Queued.{queue_of, bits_of}
-use Rattle.level_queues.specs.Pushed.{IsQueuedAt, GoesOn}
+use Rattle.node_file.specs.Writing.{given, waiting}
+use Rattle.level_queues.specs.GivenWords.{words_in}
+use Rattle.level_queues.specs.Queued.{queue_of, bits_of, written_of}
+use Rattle.level_queues.specs.Pushed.{IsQueuedAt, lowest_of, GoesOn}
+use Rattle.level_queues.proofs.Ahead.{end_toward}
+use Rattle.level_queues.proofs.Grown.{toward_longer, toward_root, grew_row}
+use Rattle.level_queues.proofs.PushedCells.{lowest_within}
 use Rattle.level_queues.proofs.Ending.{goes_to_root, count_words}
 use Rattle.level_queues.proofs.Onward.{goes_further}
 use Rattle.level_queues.proofs.Turns.{AreRows, are_rows, few_given}
@@ -56,3 +60,46 @@ returns-clause-totals g c = λ cells words is.
     let count : c.write_row.new.self.cells ≡ length cells =
     omega (arith, c.write_row.ensures.cells, on.holds.cells, many) in
     λ i. record { records = records i; cells = count i }
+
+pub returns-in_err-close_below-clause-front : goal.returns-in_err-close_below-clause-front
+returns-in_err-close_below-clause-front g c = λ cells words is.
+    let now = c.args.self.now in
+    let top : ℕ = now.depth - 1 in
+    toward_longer words (written_of (face_leaves cells) (now.depth - suc top) top (now.last / 8 ^ suc top)) (file_words 2 now.depth cells)
+    (g.O.ByteSink.written c.args.writer.now.sink.now) (g.O.ByteSink.written c.close_below.new.writer.sink.now) (waiting c.args.writer.now) (c.close_below.ensures.front (face_leaves cells) words is)
+    (end_toward now.depth now.last (lowest_of now) top cells (queue_of now.queues.entries now.counts) words (lowest_within now.cells top) (omega (arith, now.least)) now.inside is.queued)
+
+pub returns-in_err-root-clause-front : goal.returns-in_err-root-clause-front
+returns-in_err-root-clause-front g c = λ cells words is.
+    let now = c.args.self.now in
+    let after = c.close_below.new.self in
+    let top : ℕ = now.depth - 1 in
+    let on = c.in_ok-close_below.ensures.queued (face_leaves cells) words is in
+    toward_root cells now.depth now.last after.depth after.last top (queue_of after.queues.entries after.counts) words on.more
+    (g.O.ByteSink.written c.args.writer.now.sink.now) (g.O.ByteSink.written c.close_below.new.writer.sink.now) (g.O.ByteSink.written c.write_row.new.writer.sink.now) (waiting c.args.writer.now) (waiting c.close_below.new.writer)
+    c.close_below.ensures.depth c.close_below.ensures.last (omega (arith, now.least)) now.inside on.holds.queued (c.close_below.ensures.front (face_leaves cells) words is) on.grown
+    c.write_row.ensures.front
+
+pub returns-in_err-add-clause-front : goal.returns-in_err-add-clause-front
+returns-in_err-add-clause-front g c = λ cells words is.
+    let now = c.args.self.now in
+    let after = c.close_below.new.self in
+    let top : ℕ = now.depth - 1 in
+    let on = c.in_ok-close_below.ensures.queued (face_leaves cells) words is in
+    toward_root cells now.depth now.last after.depth after.last top (queue_of after.queues.entries after.counts) words on.more
+    (g.O.ByteSink.written c.args.writer.now.sink.now) (g.O.ByteSink.written c.close_below.new.writer.sink.now) (g.O.ByteSink.written c.add.new.self.sink.now) (waiting c.args.writer.now) (waiting c.close_below.new.writer)
+    c.close_below.ensures.depth c.close_below.ensures.last (omega (arith, now.least)) now.inside on.holds.queued (c.close_below.ensures.front (face_leaves cells) words is) on.grown
+    (grew_row (g.O.ByteSink.written c.close_below.new.writer.sink.now) (g.O.ByteSink.written c.write_row.new.writer.sink.now) (g.O.ByteSink.written c.add.new.self.sink.now) (waiting c.close_below.new.writer) (waiting c.write_row.new.writer)
+    (words_in (queue_of after.queues.entries after.counts top)) c.write_row.ensures.front c.in_ok-root.ensures.given c.add.ensures.front)
+
+pub returns-clause-front : goal.returns-clause-front
+returns-clause-front g c = λ cells words is.
+    let now = c.args.self.now in
+    let after = c.close_below.new.self in
+    let top : ℕ = now.depth - 1 in
+    let on = c.in_ok-close_below.ensures.queued (face_leaves cells) words is in
+    toward_root cells now.depth now.last after.depth after.last top (queue_of after.queues.entries after.counts) words on.more
+    (g.O.ByteSink.written c.args.writer.now.sink.now) (g.O.ByteSink.written c.close_below.new.writer.sink.now) (g.O.ByteSink.written c.add.new.self.sink.now) (waiting c.args.writer.now) (waiting c.close_below.new.writer)
+    c.close_below.ensures.depth c.close_below.ensures.last (omega (arith, now.least)) now.inside on.holds.queued (c.close_below.ensures.front (face_leaves cells) words is) on.grown
+    (grew_row (g.O.ByteSink.written c.close_below.new.writer.sink.now) (g.O.ByteSink.written c.write_row.new.writer.sink.now) (g.O.ByteSink.written c.add.new.self.sink.now) (waiting c.close_below.new.writer) (waiting c.write_row.new.writer)
+    (words_in (queue_of after.queues.entries after.counts top)) c.write_row.ensures.front c.in_ok-root.ensures.given c.add.ensures.front)

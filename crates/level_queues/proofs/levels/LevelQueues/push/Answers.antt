@@ -1,11 +1,14 @@
 -- All that the cell leaves is closed, and the lowest queue has room for the cell.
-use Rattle.std.proofs.Common.{◌-◌, ◌+◌, ◌*◌, ◌==◌, cond, ◌++◌, ◌∷◌, List, [], ℕ, length, ap, ◌∙◌, arith}
+use Rattle.std.proofs.Common.{suc, ◌-◌, ◌+◌, ◌*◌, ◌/◌, ◌^◌, ◌==◌, cond, ◌++◌, ◌∷◌, List, [], ℕ, length, ap, ◌∙◌, arith}
 use Rattle.std.proofs.lemmas.List.{length-append}
 use Rattle.octree_specs.specs.Cells.{Cell}
-use Rattle.octree_specs.specs.Formats.{face_leaves}
+use Rattle.octree_specs.specs.Formats.{face_leaves, file_words}
 use Rattle.octree_specs.specs.Octree.{Leaf}
-use Rattle.node_file.specs.Writing.{given}
+use Rattle.node_file.specs.Writing.{given, waiting}
+use Rattle.level_queues.specs.Queued.{queue_of, written_of}
 use Rattle.level_queues.specs.Pushed.{IsQueuedAt, IsQueued, lowest_of}
+use Rattle.level_queues.proofs.Ahead.{cell_toward}
+use Rattle.level_queues.proofs.Grown.{toward_longer}
 use Rattle.level_queues.proofs.Onward.{goes_nowhere, goes_further}
 use Rattle.level_queues.proofs.Turns.{AreRows, are_rows}
 use Rattle.level_queues.proofs.PushedCells.{IsBehind, face_leaves-more, lowest_later, room_pushed, put_pushed}
@@ -47,3 +50,25 @@ returns-clause-queued g c = λ cells words is.
       count = c.put_cell.ensures.words ∙ at.count;
       cells = omega (arith, c.put_cell.ensures.cells, at.cells, ap length (face_leaves-more cells cell), length-append (face_leaves cells) (leaf ∷ []));
     }))
+
+pub returns-in_err-close_below-clause-front : goal.returns-in_err-close_below-clause-front
+returns-in_err-close_below-clause-front g c = λ cells words is later ascend.
+    let now = c.args.self.now in
+    let target : ℕ = c.target-target.result in
+    let cell : Cell = record { code = c.args.code; face = c.args.face } in
+    let behind : IsBehind now.cells now.last c.args.code target = record { later = c.requires.after; same = c.target-target.ensures.same; apart = c.target-target.ensures.apart } in
+    toward_longer words (written_of (face_leaves cells) (now.depth - suc target) target (now.last / 8 ^ suc target)) (file_words 2 now.depth (cells ++ cell ∷ later))
+    (g.O.ByteSink.written c.args.writer.now.sink.now) (g.O.ByteSink.written c.close_below.new.writer.sink.now) (waiting c.args.writer.now) (c.close_below.ensures.front (face_leaves cells) words is)
+    (cell_toward now.depth now.last (lowest_of now) target now.cells cells cell later (queue_of now.queues.entries now.counts) words
+    c.target-target.ensures.reached c.target-target.ensures.within is.cells behind c.requires.inside ascend is.queued)
+
+pub returns-clause-front : goal.returns-clause-front
+returns-clause-front g c = λ cells words is later ascend.
+    let now = c.args.self.now in
+    let target : ℕ = c.target-target.result in
+    let cell : Cell = record { code = c.args.code; face = c.args.face } in
+    let behind : IsBehind now.cells now.last c.args.code target = record { later = c.requires.after; same = c.target-target.ensures.same; apart = c.target-target.ensures.apart } in
+    toward_longer words (written_of (face_leaves cells) (now.depth - suc target) target (now.last / 8 ^ suc target)) (file_words 2 now.depth (cells ++ cell ∷ later))
+    (g.O.ByteSink.written c.args.writer.now.sink.now) (g.O.ByteSink.written c.close_below.new.writer.sink.now) (waiting c.args.writer.now) (c.close_below.ensures.front (face_leaves cells) words is)
+    (cell_toward now.depth now.last (lowest_of now) target now.cells cells cell later (queue_of now.queues.entries now.counts) words
+    c.target-target.ensures.reached c.target-target.ensures.within is.cells behind c.requires.inside ascend is.queued)

@@ -1,0 +1,20 @@
+-- What contracts see of a file that is read from a store.
+use Rattle.std.specs.Prelude.{List, ℕ, Option}
+use Rattle.dev_traits.specs.Files.{current_bytes}
+use Rattle.dev_traits.specs.declared.file_device.NodeStore.{Ghosts}
+use Rattle.node_file.specs.FileView.{FileView}
+use Rattle.node_file.specs.Stored.{words_in}
+use Rattle.node_file.specs.declared.stored.Nodes.{Nodes}
+
+module _ {N : Type 0} {g : Ghosts N} where
+  -- the bytes of the store's current file, where it tells them
+  abbrev pub bytes_of : Nodes N g → Option (List ℕ)
+  bytes_of nodes = current_bytes (g.files nodes.store.now) (g.current nodes.store.now)
+
+  abbrev pub file_of : Nodes N g → FileView
+  file_of nodes = record {
+    format = nodes.frame.format;
+    grid = nodes.frame.grid;
+    totals = nodes.frame.totals;
+    words = words_in (bytes_of nodes) nodes.frame.totals.records;
+  }
