@@ -1,0 +1,6 @@
+pub mod Recursion
+pub mod Parents
+pub mod Files
+pub mod Walks
+pub mod Framing
+pub mod NextCells

@@ -1,0 +1,18 @@
+//! Node files are checked, and asked for cells and faces.
+#![tactic(auto)]
+
+mod checking;
+mod following;
+mod queries;
+mod siblings;
+mod walking;
+
+pub use checking::{CheckFault, check};
+pub use following::next_cell;
+pub use queries::{face_of, has};
+pub use walking::WalkFault;
+
+#[cfg(test)]
+mod store_tests;
+#[cfg(test)]
+mod tests;
