@@ -1,5 +1,5 @@
 -- The lists that the tables hold. A case is three small numbers.
-use Rattle.std.specs.Prelude.{ℕ, ◌+◌, ◌-◌, List, [], ◌∷◌, ◌++◌, map}
+use Rattle.std.specs.Prelude.{ℕ, ◌+◌, ◌-◌, bit_xor, List, [], ◌∷◌, ◌++◌, map}
 use Rattle.std.specs.List.{flat_map, range_with_len}
 
 abbrev pub case : ℕ → ℕ → ℕ → List ℕ
@@ -14,3 +14,7 @@ unfoldable pub axis_case_list : List (List ℕ)
 axis_case_list =
     map (λ k. case 0 0 k) (range_with_len 0 3)
     ++ case 1 0 0 ∷ flat_map (λ i. map (λ k. case 2 i k) (range_with_len 0 3)) (range_with_len 0 3)
+
+-- the orders of a node's children: for each g, whose bits say along which axes a ray goes down, `case (i xor g) 0 0` for i from 0 to 7
+unfoldable pub octant_order_list : List (List ℕ)
+octant_order_list = flat_map (λ g. map (λ i. case (bit_xor i g) 0 0) (range_with_len 0 8)) (range_with_len 0 8)

@@ -2,9 +2,11 @@
 #![tactic(auto)]
 
 mod cases;
+mod orders;
 mod separation;
 
 pub use cases::Cases;
+pub use orders::octant_orders;
 pub use separation::{axis_cases, row_pairs};
 
 #[cfg(test)]

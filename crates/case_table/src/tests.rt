@@ -1,6 +1,6 @@
 //! Single entries, counted by hand.
 
-use super::{axis_cases, row_pairs};
+use super::{axis_cases, octant_orders, row_pairs};
 
 #[test]
 fn entries_stand_at_their_places(rt: HostRuntime) {
@@ -13,4 +13,9 @@ fn entries_stand_at_their_places(rt: HostRuntime) {
     assert_eq!(rt; axes.get(3), [1, 0, 0]);
     assert_eq!(rt; axes.get(6), [2, 0, 2]);
     assert_eq!(rt; axes.get(12), [2, 2, 2]);
+    let orders = octant_orders();
+    assert_eq!(rt; orders.get(5), [5, 0, 0]);
+    assert_eq!(rt; orders.get(8), [1, 0, 0]);
+    assert_eq!(rt; orders.get(8 * 6 + 1), [7, 0, 0]);
+    assert_eq!(rt; orders.get(63), [0, 0, 0]);
 }
