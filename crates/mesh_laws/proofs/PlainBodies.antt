@@ -33,16 +33,16 @@ with_triangles number [] o = o
 with_triangles number (face ∷ faces) o = give_triangle (record { face = number; corners = face }) (with_triangles (suc number) faces o)
 
 -- steps that take all lines go on with white space alone before what follows
-record LinesRead (start : Outcome) (gives : Outcome → Outcome) (then : Cursor → Outcome) (end : ℕ) (more : List ℕ) : Type 0 where
-  place : ℕ
-  white : List ℕ
-  read : start ≡ gives (then (at place (white ++ more)))
-  blank : list_all (belongs White) white ≡ true
-  reached : place + length (white ++ more) ≡ end
+pub record LinesRead (start : Outcome) (gives : Outcome → Outcome) (then : Cursor → Outcome) (end : ℕ) (more : List ℕ) : Type 0 where
+  pub place : ℕ
+  pub white : List ℕ
+  pub read : start ≡ gives (then (at place (white ++ more)))
+  pub blank : list_all (belongs White) white ≡ true
+  pub reached : place + length (white ++ more) ≡ end
 
 -- ---- vertices
 
-vertices_read : (cut : Bool) (v f : ℕ) (then : Cursor → Outcome) (ps : List Point) (place : ℕ) (white more : List ℕ) → All IsNear ps → list_all (belongs White) white ≡ true
+pub vertices_read : (cut : Bool) (v f : ℕ) (then : Cursor → Outcome) (ps : List Point) (place : ℕ) (white more : List ℕ) → All IsNear ps → list_all (belongs White) white ≡ true
     → place + length (white ++ (flat_map vertex_line ps ++ more)) ≤ 2 ^ 62
     → LinesRead (vertices_rest (whole_scale cut) (plain_declared v f) (length ps) then (at place (white ++ (flat_map vertex_line ps ++ more)))) (with_points ps) then (place + length (white ++ (flat_map vertex_line ps ++ more))) more
 unfolding vertices_rest with_points belongs
@@ -150,7 +150,7 @@ white_end place white blank room =
     let go : ℕ → Result (Option ℕ) TextFault = λ n. Ok (cond (n == length white) None (Some (place + n))) in
     ap (λ (r : Result ℕ TextFault). sized r go) (run_size-near White (room_at place) white (inr (omega (arith, room))) ∙ ap (λ (n : ℕ). Ok n) size) ∙ rw end refl
 
-end_read : (v f place : ℕ) (white : List ℕ) → list_all (belongs White) white ≡ true → place + length white ≤ 2 ^ 62 → behind_rest (plain_declared v f) (at place white) ≡ ended_at (place + length white)
+pub end_read : (v f place : ℕ) (white : List ℕ) → list_all (belongs White) white ≡ true → place + length white ≤ 2 ^ 62 → behind_rest (plain_declared v f) (at place white) ≡ ended_at (place + length white)
 unfolding behind_rest text_ended elements_passed
 end_read v f place white blank room = rw (white_end place white blank room) refl
 

@@ -38,7 +38,7 @@ number_taken cut place white z rest near blank ends room =
 whole_within : (kind : PlyKind) (least bound place : ℕ) (n : ℕ) → least ≤ n → n < bound → within_bounds kind least bound place (Some n) ≡ Ok n
 whole_within kind least bound place n low high = let inside : (nat_le least n && nat_lt n bound) ≡ true = grind (arith, nat_tests, low, high) in rw inside refl
 
-whole_taken : (kind : PlyKind) (least bound place : ℕ) (white t : List ℕ) (n : ℕ) (rest : List ℕ) → IsPlainToken t → whole_of t (2 ^ 64 - 1) ≡ Some n → least ≤ n → n < bound
+pub whole_taken : (kind : PlyKind) (least bound place : ℕ) (white t : List ℕ) (n : ℕ) (rest : List ℕ) → IsPlainToken t → whole_of t (2 ^ 64 - 1) ≡ Some n → least ≤ n → n < bound
     → list_all (belongs White) white ≡ true → prefix_len (belongs Token) rest ≡ 0 → place + length (white ++ (t ++ rest)) ≤ 2 ^ 62
     → taken (whole_in kind least bound) (at place (white ++ (t ++ rest))) ≡ Ok (n, at (place + (length white + length t)) rest)
 whole_taken kind least bound place white t n rest token value low high blank ends room =

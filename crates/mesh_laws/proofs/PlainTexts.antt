@@ -22,12 +22,12 @@ use Rattle.mesh_laws.proofs.PlainRows.{whole_scale}
 
 -- ---- what was given
 
-points_of : (ps : List Point) (o : Outcome) → (with_points ps o).points ≡ ps ++ o.points
+pub points_of : (ps : List Point) (o : Outcome) → (with_points ps o).points ≡ ps ++ o.points
 unfolding with_points
 points_of [] o = refl
 points_of (p ∷ ps) o = ap (λ qs. p ∷ qs) (points_of ps o)
 
-points_keep : (ps : List Point) (o : Outcome) → ((with_points ps o).triangles ≡ o.triangles) × ((with_points ps o).ends ≡ o.ends)
+pub points_keep : (ps : List Point) (o : Outcome) → ((with_points ps o).triangles ≡ o.triangles) × ((with_points ps o).ends ≡ o.ends)
 unfolding with_points
 points_keep [] o = (refl, refl)
 points_keep (p ∷ ps) o = points_keep ps o

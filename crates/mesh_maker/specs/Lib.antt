@@ -1,0 +1,4 @@
+pub mod MadeText
+pub mod MadeMeaning
+pub mod Left
+pub mod Laws
