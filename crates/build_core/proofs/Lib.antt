@@ -1,0 +1,12 @@
+pub mod SpooledPoints
+pub mod SpilledTriangles
+pub mod ValidPlans
+pub mod SpilledMeshes
+pub mod SpilledTexts
+pub mod NextSlots
+pub mod PushedOn
+pub mod PartFills
+pub mod PartsPushed
+pub mod LaterCells
+pub mod FilesPut
+pub mod BuiltFiles

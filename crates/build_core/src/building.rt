@@ -1,0 +1,170 @@
+//! The whole build.
+
+ghost use Rattle.std.specs.Prelude.{◌≡◌, ◌+◌, ◌-◌, ◌*◌, ◌^◌, ◌≤◌, ◌<◌, None, Some, Err, length, IfErr, MatchResult};
+ghost use Rattle.dev_traits.specs.Faults.{Rose};
+ghost use Rattle.dev_traits.specs.Streams.{asked_of};
+ghost use Rattle.room_plan.specs.Rooms.{HasRoomOf};
+ghost use Rattle.build_core.specs.Meshes.{AreEmpty, IsJob};
+ghost use Rattle.build_core.specs.Building.{HasBuilt, StopsBuild};
+ghost use Rattle.build_core.specs.declared.faults.BuildFault.{BuildFault};
+
+use crate::faults::BuildFault;
+use crate::jobs::{Built, Job};
+use crate::nodes::write_nodes;
+use crate::parts::part_count;
+use crate::spilling::spill;
+use dev_traits::{ByteSink, ByteSource, Scratch};
+use room_plan::{Parcel, QueueEntry, Room, VertexBlock};
+use std::sync::ledger::Ledger;
+use svo_base::Steps;
+
+/// Builds the node file, of format 2, of the cells that the triangles of a mesh text meet, each with
+/// the least face that meets it. It takes no memory but the room that is lent, whatever the mesh.
+///
+/// The text is read once, to its end, before anything is put out. Its vertices go to stream 0 of the
+/// scratch, and its triangles to the streams of the parts of the grid that their boxes reach; then the
+/// parts are filled and put out one after another, in Morton order (Baert, Lagae, Dutré 2013). The
+/// scratch is started at `place`.
+///
+/// # Errors
+///
+/// - `Input`: the text is refused, at a place; all bytes before it were read, and nothing was put out.
+/// - `ReadFault`: the source refused a read; nothing was put out.
+/// - `ScratchFault`: the scratch refused a call; a front of the node file was put out, or nothing.
+/// - `WriteFault`: the sink refused a put; a front of the node file was put out.
+pub fn build_core<I: ByteSource, S: Scratch, O: ByteSink, L: Ledger, T: Ledger>(
+    job: &Job,
+    place: &str,
+    input: &mut I,
+    scratch: &mut S,
+    out: &mut O,
+    room: &mut Room,
+    moves: &mut Steps<L>,
+    tests: &mut Steps<T>,
+) -> Result<Built, BuildFault>
+    requires job { IsJob job.now }
+    requires room { HasRoomOf job.now.plan room.old }
+    requires unasked { S.asked scratch.old ≡ None }
+    ensures builds { MatchResult result
+        (HasBuilt job.now (record {
+          read_before = I.rest input.old;
+          read_after = I.rest input.new;
+          written_before = O.written out.old;
+          written_after = O.written out.new;
+          faults_before = O.faults out.old;
+          faults_after = O.faults out.new;
+          streams = S.told scratch.new;
+        }) moves.old moves.new tests.old tests.new)
+        (StopsBuild job.now (record {
+          read_before = I.rest input.old;
+          read_after = I.rest input.new;
+          written_before = O.written out.old;
+          written_after = O.written out.new;
+          faults_before = O.faults out.old;
+          faults_after = O.faults out.new;
+          streams = S.told scratch.new;
+        })) }
+    ensures asked { S.asked scratch.new ≡ Some (asked_of place.now (1 + 8 ^ job.now.plan.split)) }
+    ensures read_later { I.faults input.old ≤ I.faults input.new }
+    ensures spill_later { S.faults scratch.old ≤ S.faults scratch.new }
+    ensures put_later { O.faults out.old ≤ O.faults out.new }
+    ensures read_cause { result ≡ Err BuildFault.ReadFault → Rose (I.faults input.old) (I.faults input.new) }
+    ensures spill_cause { result ≡ Err BuildFault.ScratchFault → Rose (S.faults scratch.old) (S.faults scratch.new) }
+    ensures put_cause { result ≡ Err BuildFault.WriteFault → Rose (O.faults out.old) (O.faults out.new) }
+{
+    let parts = part_count(job.plan.split);
+    if scratch.start(place, 1 + parts).is_err() {
+        return Err(BuildFault::ScratchFault);
+    }
+    build_parts(
+        job,
+        parts,
+        input,
+        scratch,
+        out,
+        room.block_a.as_mut_slice(),
+        room.block_b.as_mut_slice(),
+        room.window.as_mut_slice(),
+        room.pool.as_mut_slice(),
+        room.queues.as_mut_slice(),
+        room.slots.as_mut_slice(),
+        moves,
+        tests,
+    )
+}
+
+/// The build on a scratch that was started, in lent buffers.
+fn build_parts<I: ByteSource, S: Scratch, O: ByteSink, L: Ledger, T: Ledger>(
+    job: &Job,
+    parts: u32,
+    input: &mut I,
+    scratch: &mut S,
+    out: &mut O,
+    block_a: &mut [u8],
+    block_b: &mut [u8],
+    window: &mut [VertexBlock],
+    pool: &mut [Parcel],
+    queues: &mut [QueueEntry],
+    slots: &mut [u32],
+    moves: &mut Steps<L>,
+    tests: &mut Steps<T>,
+) -> Result<Built, BuildFault>
+    requires job { IsJob job.now }
+    requires parts { parts ≡ 8 ^ job.now.plan.split }
+    requires block_a { length block_a.old ≡ 4096 }
+    requires block_b { length block_b.old ≡ 4096 }
+    requires window { length window.old ≡ job.now.plan.window }
+    requires pool { length pool.old ≡ job.now.plan.pool }
+    requires queues { length queues.old ≡ 8 * job.now.plan.depth }
+    requires slots { length slots.old ≡ job.now.plan.slots }
+    requires started { S.started scratch.old ≡ 1 + 8 ^ job.now.plan.split }
+    requires empty { AreEmpty (1 + 8 ^ job.now.plan.split) (S.told scratch.old) }
+    ensures builds { MatchResult result
+        (HasBuilt job.now (record {
+          read_before = I.rest input.old;
+          read_after = I.rest input.new;
+          written_before = O.written out.old;
+          written_after = O.written out.new;
+          faults_before = O.faults out.old;
+          faults_after = O.faults out.new;
+          streams = S.told scratch.new;
+        }) moves.old moves.new tests.old tests.new)
+        (StopsBuild job.now (record {
+          read_before = I.rest input.old;
+          read_after = I.rest input.new;
+          written_before = O.written out.old;
+          written_after = O.written out.new;
+          faults_before = O.faults out.old;
+          faults_after = O.faults out.new;
+          streams = S.told scratch.new;
+        })) }
+    ensures asked { S.asked scratch.new ≡ S.asked scratch.old }
+    ensures read_later { I.faults input.old ≤ I.faults input.new }
+    ensures spill_later { S.faults scratch.old ≤ S.faults scratch.new }
+    ensures put_later { O.faults out.old ≤ O.faults out.new }
+    ensures read_cause { result ≡ Err BuildFault.ReadFault → Rose (I.faults input.old) (I.faults input.new) }
+    ensures spill_cause { result ≡ Err BuildFault.ScratchFault → Rose (S.faults scratch.old) (S.faults scratch.new) }
+    ensures put_cause { result ≡ Err BuildFault.WriteFault → Rose (O.faults out.old) (O.faults out.new) }
+{
+    let spilled = spill(job, input, block_a, block_b, window, pool, scratch)?;
+    let totals = write_nodes(
+        &spilled.grid,
+        job.plan.split,
+        block_a,
+        block_b,
+        slots,
+        queues,
+        scratch,
+        out,
+        moves,
+        tests,
+    )?;
+    Ok(Built {
+        grid: spilled.grid,
+        faces: spilled.taken.faces,
+        triangles: spilled.taken.triangles,
+        cells: totals.cells,
+        records: totals.records,
+        parts: u64::from(parts),
+    })
+}

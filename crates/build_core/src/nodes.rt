@@ -1,0 +1,88 @@
+//! The node file of a mesh whose triangles lie on scratch.
+
+ghost use Rattle.std.specs.Prelude.{◌≡◌, ℕ, Bool, ◌+◌, ◌-◌, ◌*◌, ◌^◌, ◌<◌, ◌≤◌, List, Err, length, OnOk, IfOk};
+ghost use Rattle.svo_base.specs.GridShape.{IsGrid};
+ghost use Rattle.dev_traits.specs.Faults.{Rose};
+ghost use Rattle.octree_specs.specs.FacedTriangles.{Faced};
+ghost use Rattle.morton_scan.specs.FilledParts.{TestEachParcel};
+ghost use Rattle.build_core.specs.ScratchParts.{HasPartsOf, tests_of_parts};
+ghost use Rattle.build_core.specs.PutFiles.{HasPutFile, HasPutFront};
+ghost use Rattle.build_core.specs.declared.faults.NodesFault.{NodesFault};
+
+use crate::faults::NodesFault;
+use crate::parts::write_parts;
+use dev_traits::{ByteSink, Scratch};
+use level_queues::LevelQueues;
+use morton_scan::PartSlots;
+use node_file::{NodeWriter, Totals};
+use room_plan::{QueueEntry, Queues};
+use std::sync::ledger::Ledger;
+use svo_base::{Grid, Steps};
+
+/// Puts out the node file of the cells that the triangles on scratch fill, and answers how many words
+/// and cells it has. At every answer the sink grew by a front of that file.
+///
+/// The parts of the grid at `split` lie in the streams from 1 on. `block` is for reads of them, and
+/// `words_block` for puts; `slots` has a place for each cell of a part, and `entries` eight for each
+/// level. What they hold does not matter.
+///
+/// # Errors
+///
+/// `Scratch`: the scratch refused a call. `Sink`: the sink refused a put.
+pub fn write_nodes<S: Scratch, O: ByteSink, L: Ledger, T: Ledger>(
+    grid: &Grid,
+    split: u32,
+    block: &mut [u8],
+    words_block: &mut [u8],
+    slots: &mut [u32],
+    entries: &mut [QueueEntry],
+    scratch: &mut S,
+    out: &mut O,
+    moves: &mut Steps<L>,
+    tests: &mut Steps<T>,
+) -> Result<Totals, NodesFault>
+    requires split { split ≤ grid.now.depth }
+    requires few { split ≤ 4 }
+    requires block { 40 ≤ length block.old }
+    requires words_block { 48 ≤ length words_block.old }
+    requires slots { 8 ^ (grid.now.depth - split) ≤ length slots.old }
+    requires entries { length entries.old ≡ 8 * grid.now.depth }
+    requires streams { 8 ^ split < S.started scratch.old }
+    ensures file { IfOk result (λ totals. HasPutFile grid.now split (S.told scratch.old) (O.written out.old) (O.written out.new) totals moves.old moves.new) }
+    ensures front { HasPutFront grid.now split (S.told scratch.old) (O.written out.old) (O.written out.new) }
+    ensures tests { OnOk result ((test : Faced → ℕ → ℕ → Bool) → TestEachParcel grid.now test → (faced : List Faced) → HasPartsOf grid.now split (S.told scratch.old) faced
+        → tests.new ≤ tests.old + tests_of_parts grid.now split (8 ^ split) test faced) }
+    ensures limits { IsGrid grid.now }
+    ensures told { S.told scratch.new ≡ S.told scratch.old }
+    ensures started { S.started scratch.new ≡ S.started scratch.old }
+    ensures asked { S.asked scratch.new ≡ S.asked scratch.old }
+    ensures read_later { S.faults scratch.old ≤ S.faults scratch.new }
+    ensures put_later { O.faults out.old ≤ O.faults out.new }
+    ensures read_cause { result ≡ Err NodesFault.Scratch → Rose (S.faults scratch.old) (S.faults scratch.new) }
+    ensures put_cause { result ≡ Err NodesFault.Sink → Rose (O.faults out.old) (O.faults out.new) }
+{
+    let mut slots = PartSlots::new(slots);
+    let mut queues = LevelQueues::new(grid.depth(), Queues::new(entries));
+    let mut writer = match NodeWriter::begin(out, words_block, grid) {
+        Ok(writer) => writer,
+        Err(_) => return Err(NodesFault::Sink),
+    };
+    write_parts(
+        grid,
+        split,
+        block,
+        &mut slots,
+        scratch,
+        &mut queues,
+        &mut writer,
+        moves,
+        tests,
+    )?;
+    let Ok(totals) = queues.finish(&mut writer, moves) else {
+        return Err(NodesFault::Sink);
+    };
+    match writer.finish(totals.cells) {
+        Ok(_) => Ok(totals),
+        Err(_) => Err(NodesFault::Sink),
+    }
+}
