@@ -1,12 +1,10 @@
-//! The program: `run` over the standard streams.
+//! The program: `run` over the standard streams, with a folder for what a build keeps aside.
 #![tactic(auto)]
 
-mod streams;
-
+use host_files::{FolderScratch, HostErrors, HostInput, HostOutput};
 use std::process::ExitCode;
 use std::rt::Env;
 use std::{env, io};
-use streams::{HostInput, HostOutput};
 use svo_base::Words;
 use svo_top::{Status, run};
 
@@ -14,6 +12,7 @@ use svo_top::{Status, run};
 const NO_WORDS: u8 = 8;
 
 /// Runs the words after the program's name over the standard streams, and ends with the status's code.
+/// A build keeps its scratch in the folder that its words name, from the caller's folder on.
 fn main(rt: HostRuntime) -> ExitCode {
     let words = match host_words(&rt) {
         Err(error) => return ExitCode::from(words_code(&error)),
@@ -21,8 +20,16 @@ fn main(rt: HostRuntime) -> ExitCode {
     };
     let mut input = HostInput::new(rt.stdin());
     let mut out = HostOutput::new(rt.stdout());
-    let mut err = HostOutput::new(rt.stderr());
-    let status = run(rt.alloc(), &words, &mut input, &mut out, &mut err);
+    let mut err = HostErrors::new(rt.stderr());
+    let mut scratch = FolderScratch::new(&rt);
+    let status = run(
+        rt.alloc(),
+        &words,
+        &mut input,
+        &mut out,
+        &mut err,
+        &mut scratch,
+    );
     ExitCode::from(status.code())
 }
 

@@ -1,5 +1,4 @@
-pub mod CellCounts
-pub mod MeshStops
+pub mod BuildEndings
 pub mod Puts
 pub mod WordCauses
 pub mod WorkedWords

@@ -1,6 +1,6 @@
 -- From what the words mean to what a run does.
-use Rattle.std.proofs.Common.{◌≡◌, ◌≢◌, ◌⊎◌, ℕ, List, [], Option, None, Some, Result, Ok, Err, inl, inr, refl, sym, ap, ◌∙◌, subst}
-use Rattle.dev_traits.specs.Change.{Change, IsKept}
+use Rattle.std.proofs.Common.{◌≡◌, ◌⊎◌, ℕ, List, [], Some, Result, Ok, Err, inl, inr, refl, sym, ap, ◌∙◌, subst}
+use Rattle.dev_traits.specs.Change.{Change, ScratchChange, IsKept, IsScratchKept}
 use Rattle.svo_words.specs.Forms.{form_of}
 use Rattle.svo_words.specs.Meaning.{Means}
 use Rattle.svo_words.specs.Reading.{IsRead}
@@ -11,14 +11,14 @@ use Rattle.svo_words.specs.declared.commands.Command.TheVariants.{Build, Why}
 use Rattle.svo_words.specs.declared.commands.WordFault.{WordFault}
 use Rattle.svo_words.specs.declared.commands.WordFault.TheVariants as word
 use Rattle.svo_words.proofs.Meanings.{one_meaning_is}
-use Rattle.svo_top.specs.Build.{BuildMeans, BuildRun, Finished}
+use Rattle.svo_top.specs.Build.{BuildRun, Finished}
 use Rattle.svo_top.specs.Lines.{Says}
-use Rattle.svo_top.specs.Causes.{UsageCauses, RangeCauses, KeepsInput, KeepsOutput}
+use Rattle.svo_top.specs.Causes.{UsageCauses, RangeCauses, KeepsInput, KeepsOutput, KeepsScratch}
 use Rattle.svo_top.specs.Endings.{status_of, line_of, EndsBuild, EndsWhy}
 use Rattle.svo_top.specs.Obeying.{Obeys, Stops}
 use Rattle.svo_top.specs.Ranges.{range_of}
 use Rattle.svo_top.specs.Usage.{fault_of, status_of_fault}
-use Rattle.svo_top.specs.Why.{WhyMeans, WhyRun}
+use Rattle.svo_top.specs.Why.{WhyRun}
 use Rattle.svo_top.specs.declared.outcome.Status.{Status}
 use Rattle.svo_top.specs.declared.outcome.Status.TheVariants.{Done, Usage, Input, Range, Device, Memory}
 use Rattle.svo_top.specs.declared.outcome.UsageKind.{UsageKind}
@@ -38,22 +38,26 @@ fault_back (Err word.Value) fault (inl e) rest = sym e
 fault_back (Err word.Value) fault (inr e) rest = absurd (rest cc)
 fault_back (Err word.Memory) fault e rest = absurd (rest cc)
 
-without_memory : (input out : Change) → IsKept input → IsKept out → (command : Command) → Obeys command input out (Stopped Memory)
-without_memory input out kept_input kept_out (Build job) = (
+without_memory : (input out : Change) (scratch : ScratchChange) → IsKept input → IsKept out → IsScratchKept scratch → (command : Command) → Obeys command input out scratch (Stopped Memory)
+without_memory input out scratch kept_input kept_out kept_scratch (Build job) = (
   tt,
   record {
-    unread = λ f e. kept_input;
-    kept = λ a b. kept_out;
+    untouched = λ f e. (kept_input, kept_out, kept_scratch);
+    memory = λ e. (kept_input, kept_out, kept_scratch);
+    asked = inl kept_scratch.1;
+    kept = λ a b c. kept_out;
     cut_off = λ e. absurd cc;
+    cut_short = λ e. absurd cc;
     refused = λ kind place e. absurd cc;
-    accepts = λ text mesh a b c d e. inr refl;
-    rejects = λ text ply place a b c d. inr refl;
+    accepts = λ text one mesh a b c d e f. inr refl;
+    rejects = λ text one ply place a b c d e. inr refl;
   },
 )
-without_memory input out kept_input kept_out (Why question) = (
+without_memory input out scratch kept_input kept_out kept_scratch (Why question) = (
   tt,
   record { done = λ e. absurd cc; cut_off = λ e. absurd cc; kept = λ a b. kept_out; answers = λ a b. inr refl },
   kept_input,
+  kept_scratch,
 )
 
 module _ (words : List (List ℕ)) (fault : WordFault) (read : IsRead (form_of words) (Err fault)) where
@@ -107,10 +111,11 @@ module _ (words : List (List ℕ)) (fault : WordFault) (read : IsRead (form_of w
       go word.Value f e = cc
       go word.Memory f e = cc
 
-  pub obeys_of_fault : (input out : Change) → IsKept input → IsKept out → (command : Command) → Means words (Ok command) → Obeys command input out (Stopped (status_of_fault fault))
-  obeys_of_fault input out kept_input kept_out command means =
-      let P : WordFault → Type 0 = λ f. Obeys command input out (Stopped (status_of_fault f)) in
-      subst P (sym (memory_from command means)) (without_memory input out kept_input kept_out command)
+  pub obeys_of_fault : (input out : Change) (scratch : ScratchChange) → IsKept input → IsKept out → IsScratchKept scratch → (command : Command) → Means words (Ok command)
+      → Obeys command input out scratch (Stopped (status_of_fault fault))
+  obeys_of_fault input out scratch kept_input kept_out kept_scratch command means =
+      let P : WordFault → Type 0 = λ f. Obeys command input out scratch (Stopped (status_of_fault f)) in
+      subst P (sym (memory_from command means)) (without_memory input out scratch kept_input kept_out kept_scratch command)
 
 -- ---- the words are a command
 
@@ -139,10 +144,10 @@ module _ (words : List (List ℕ)) (command : Command) (read : IsRead (form_of w
       let both : ◌≡◌ {A = Result Command WordFault} (Ok command) (Ok one) = sym is_command ∙ other in
       cc
 
-  pub obeys_of : (input out : Change) (ending : Ending) → Obeys command input out ending → (one : Command) → Means words (Ok one) → Obeys one input out ending
-  obeys_of input out ending obeys one means = let P : Command → Type 0 = λ c. Obeys c input out ending in subst P (same_command one means) obeys
+  pub obeys_of : (input out : Change) (scratch : ScratchChange) (ending : Ending) → Obeys command input out scratch ending → (one : Command) → Means words (Ok one) → Obeys one input out scratch ending
+  obeys_of input out scratch ending obeys one means = let P : Command → Type 0 = λ c. Obeys c input out scratch ending in subst P (same_command one means) obeys
 
-  module _ (input out : Change) (status : Status) (stops : Stops (range_of command) input out status) where
+  module _ (input out : Change) (scratch : ScratchChange) (status : Status) (stops : Stops (range_of command) input out scratch status) where
     pub usage_of : UsageCauses words status
     usage_of = record {
       command = λ means. absurd (no_fault word.Command means);
@@ -160,45 +165,45 @@ module _ (words : List (List ℕ)) (command : Command) (read : IsRead (form_of w
       only = λ fault e. (command, (one_meaning_is words (Ok command)).0 is_command, stops.range.only fault e);
     }
 
-    pub input_kept : KeepsInput words input
+    pub input_kept : KeepsInput words input status
     input_kept = record {
       usage = λ fault means. absurd (no_fault fault means);
-      range = λ one fault means is. stops.unread fault (named one fault means is);
+      range = λ one fault means is. (stops.unmoved fault (named one fault means is)).0;
+      memory = λ e. (stops.memory e).0;
     }
 
     pub output_kept : KeepsOutput words out status
     output_kept = record {
       usage = λ fault means. absurd (no_fault fault means);
-      range = λ one fault means is.
-          let ends : status ≡ Range fault = stops.range.comes fault (named one fault means is) in
-          stops.kept (λ e. cc) (λ e. cc);
-      memory = λ e. stops.kept (λ d. cc) (λ d. cc);
+      range = λ one fault means is. (stops.unmoved fault (named one fault means is)).1;
+      memory = λ e. (stops.memory e).1;
+    }
+
+    pub scratch_kept : KeepsScratch words scratch status
+    scratch_kept = record {
+      usage = λ fault means. absurd (no_fault fault means);
+      range = λ one fault means is. (stops.unmoved fault (named one fault means is)).2;
+      memory = λ e. (stops.memory e).2;
     }
 
 -- ---- a whole run
 
-finished_by : (job : BuildWords) (input out err : Change) (ending : Ending) → EndsBuild job input out ending → Says err (line_of ending)
-    → status_of ending ≡ Done → Finished job input out err
-finished_by job input out err (EndsBuilt counts) ends says e = record {
-  cell_count = counts.cells;
-  record_count = counts.records;
-  part_count = counts.parts;
-  built = ends;
-  line = says;
-}
-finished_by job input out err Answered ends says e = absurd ends
-finished_by job input out err (Stopped Done) ends says e = absurd ends
-finished_by job input out err (Stopped (Usage one)) ends says e = absurd ends
-finished_by job input out err (Stopped (Input one place)) ends says e = absurd cc
-finished_by job input out err (Stopped (Range one)) ends says e = absurd cc
-finished_by job input out err (Stopped (Device one)) ends says e = absurd cc
-finished_by job input out err (Stopped Memory) ends says e = absurd cc
+finished_by : (words : BuildWords) (input out : Change) (scratch : ScratchChange) (err : Change) (ending : Ending) → EndsBuild words input out scratch ending → Says err (line_of ending)
+    → status_of ending ≡ Done → Finished words input out scratch err
+finished_by words input out scratch err (EndsBuilt counts) ends says e = record { counts = counts; built = ends; line = says }
+finished_by words input out scratch err Answered ends says e = absurd ends
+finished_by words input out scratch err (Stopped Done) ends says e = absurd ends
+finished_by words input out scratch err (Stopped (Usage one)) ends says e = absurd ends
+finished_by words input out scratch err (Stopped (Input one place)) ends says e = absurd cc
+finished_by words input out scratch err (Stopped (Range one)) ends says e = absurd cc
+finished_by words input out scratch err (Stopped (Device one)) ends says e = absurd cc
+finished_by words input out scratch err (Stopped Memory) ends says e = absurd cc
 
-pub run_of_build : (job : BuildWords) (input out err : Change) (ending : Ending) (status : Status) → status ≡ status_of ending → Obeys (Build job) input out ending
-    → Says err (line_of ending) → BuildRun job input out err status
-run_of_build job input out err ending status is obeys says =
-    let P : Status → Type 0 = λ s. BuildRun job input out err s in
-    subst P (sym is) (record { finished = finished_by job input out err ending obeys.0 says; means = obeys.1 })
+pub run_of_build : (words : BuildWords) (input out : Change) (scratch : ScratchChange) (err : Change) (ending : Ending) (status : Status) → status ≡ status_of ending
+    → Obeys (Build words) input out scratch ending → Says err (line_of ending) → BuildRun words input out scratch err status
+run_of_build words input out scratch err ending status is obeys says =
+    let P : Status → Type 0 = λ s. BuildRun words input out scratch err s in
+    subst P (sym is) (record { finished = finished_by words input out scratch err ending obeys.0 says; means = obeys.1 })
 
 no_line : (ending : Ending) → EndsWhy ending → status_of ending ≡ Done → line_of ending ≡ []
 no_line (EndsBuilt counts) ends e = absurd ends
@@ -210,8 +215,8 @@ no_line (Stopped (Range fault)) ends e = absurd cc
 no_line (Stopped (Device one)) ends e = absurd cc
 no_line (Stopped Memory) ends e = absurd cc
 
-pub run_of_why : (question : WhyWords) (input out err : Change) (ending : Ending) (status : Status) → status ≡ status_of ending → Obeys (Why question) input out ending
-    → (line_of ending ≡ [] → IsKept err) → WhyRun question input out err status
-run_of_why question input out err ending status is obeys silent =
-    let P : Status → Type 0 = λ s. WhyRun question input out err s in
-    subst P (sym is) (record { means = obeys.1; unread = obeys.2; silent = λ e. silent (no_line ending obeys.0 e) })
+pub run_of_why : (question : WhyWords) (input out : Change) (scratch : ScratchChange) (err : Change) (ending : Ending) (status : Status) → status ≡ status_of ending
+    → Obeys (Why question) input out scratch ending → (line_of ending ≡ [] → IsKept err) → WhyRun question input out scratch err status
+run_of_why question input out scratch err ending status is obeys silent =
+    let P : Status → Type 0 = λ s. WhyRun question input out scratch err s in
+    subst P (sym is) (record { means = obeys.1; unread = obeys.2; unspilled = obeys.3; silent = λ e. silent (no_line ending obeys.0 e) })

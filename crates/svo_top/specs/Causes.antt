@@ -1,6 +1,6 @@
 -- Why a run stops before its work is done, and what it then leaves as it was.
 use Rattle.std.specs.Prelude.{◌≡◌, ◌≢◌, ◌⊎◌, List, ℕ, Some, Ok, Err}
-use Rattle.dev_traits.specs.Change.{Change, IsFaulted, IsKept}
+use Rattle.dev_traits.specs.Change.{Change, ChangeOf, ScratchChange, IsFaulted, IsKept, IsScratchKept}
 use Rattle.svo_words.specs.Meaning.{Means}
 use Rattle.svo_words.specs.declared.commands.Command.{Command}
 use Rattle.svo_words.specs.declared.commands.WordFault.{WordFault}
@@ -28,19 +28,26 @@ pub record RangeCauses (words : List (List ℕ)) (status : Status) : Type 0 wher
   pub only : (fault : RangeFault) → status ≡ Range fault → (command : Command) × Means words (Ok command) × (range_of command ≡ Some fault)
 
 -- a device is named only where its count of faults rose in this run
-abbrev pub DeviceCause : DeviceName → Change → Status → Type 0
+abbrev pub DeviceCause : {Told : Type 0} → DeviceName → ChangeOf Told → Status → Type 0
 DeviceCause device change status = status ≡ Device device → IsFaulted change
 
--- where the words are no command line, or a number is out of a range, nothing is read
-pub record KeepsInput (words : List (List ℕ)) (input : Change) : Type 0 where
+-- where the words are no command line, a number is out of a range, or memory runs out, nothing is read
+pub record KeepsInput (words : List (List ℕ)) (input : Change) (status : Status) : Type 0 where
   pub usage : (fault : WordFault) → Means words (Err fault) → IsKept input
   pub range : (command : Command) (fault : RangeFault) → Means words (Ok command) → range_of command ≡ Some fault → IsKept input
+  pub memory : status ≡ Memory → IsKept input
 
--- nor is anything put out there, nor where memory runs out
+-- nor is anything put out
 pub record KeepsOutput (words : List (List ℕ)) (out : Change) (status : Status) : Type 0 where
   pub usage : (fault : WordFault) → Means words (Err fault) → IsKept out
   pub range : (command : Command) (fault : RangeFault) → Means words (Ok command) → range_of command ≡ Some fault → IsKept out
   pub memory : status ≡ Memory → IsKept out
+
+-- nor is the scratch touched
+pub record KeepsScratch (words : List (List ℕ)) (scratch : ScratchChange) (status : Status) : Type 0 where
+  pub usage : (fault : WordFault) → Means words (Err fault) → IsScratchKept scratch
+  pub range : (command : Command) (fault : RangeFault) → Means words (Ok command) → range_of command ≡ Some fault → IsScratchKept scratch
+  pub memory : status ≡ Memory → IsScratchKept scratch
 
 -- a run that stops says why, in one line
 abbrev pub SaysWhy : Change → Status → Type 0

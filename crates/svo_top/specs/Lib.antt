@@ -4,8 +4,8 @@ pub mod Codes
 pub mod Endings
 pub mod Lines
 pub mod Obeying
-pub mod Planning
 pub mod Questions
 pub mod Ranges
 pub mod Usage
 pub mod Why
+pub mod CoreRuns

@@ -13,9 +13,9 @@ use Rattle.svo_top.specs.declared.outcome.UsageKind.TheVariants.{Command, Option
 use Rattle.svo_top.specs.declared.outcome.InputKind.{InputKind}
 use Rattle.svo_top.specs.declared.outcome.InputKind.TheVariants.{Ply}
 use Rattle.svo_top.specs.declared.outcome.RangeFault.{RangeFault}
-use Rattle.svo_top.specs.declared.outcome.RangeFault.TheVariants.{Decimals, Grid, Triangle, Cube}
+use Rattle.svo_top.specs.declared.outcome.RangeFault.TheVariants.{Decimals, Grid, Memory as TooMuch, LeastMemory, Triangle, Cube}
 use Rattle.svo_top.specs.declared.outcome.Device.{Device as DeviceName}
-use Rattle.svo_top.specs.declared.outcome.Device.TheVariants.{Read, Write}
+use Rattle.svo_top.specs.declared.outcome.Device.TheVariants.{Read, Scratch, Write}
 
 abbrev pub usage_word : UsageKind → List ℕ
 usage_word Command = codes "command"
@@ -54,11 +54,14 @@ grid_word TooWide = codes "wide"
 abbrev pub range_word : RangeFault → List ℕ
 range_word Decimals = codes "decimals"
 range_word (Grid fault) = grid_word fault
+range_word TooMuch = codes "memory"
+range_word (LeastMemory least) = codes "memory least " ++ decimal least
 range_word Triangle = codes "triangle"
 range_word Cube = codes "cube"
 
 abbrev pub device_word : DeviceName → List ℕ
 device_word Read = codes "read"
+device_word Scratch = codes "scratch"
 device_word Write = codes "write"
 
 -- the line of a run that stopped; a run that is done has a line of its command's own, or none

@@ -1,5 +1,5 @@
 -- The triangle and the cube that a question names.
-use Rattle.std.specs.Prelude.{ℕ, ◌+◌, ◌^◌, Bool, ◌&&◌, if◌then◌else◌, List, [], ◌∷◌, take, ℤ, pos, ◌+ℤ◌, Option, None, Some}
+use Rattle.std.specs.Prelude.{ℕ, ◌+◌, ◌^◌, Bool, ◌&&◌, if◌then◌else◌, List, [], ◌∷◌, ℤ, pos, ◌+ℤ◌, Option, None, Some}
 use Rattle.std.specs.List.{list_all, slice_index_or}
 use Rattle.svo_base.specs.GridLimits.{is_positive, is_within}
 use Rattle.svo_base.specs.declared.shapes.Point.{Point}

@@ -1,7 +1,7 @@
 -- What a run of `why` does.
-use Rattle.std.specs.Prelude.{◌≡◌, ◌≢◌, ◌⊎◌, ℕ, List, ◌++◌, take, codes, ⊤, None, Some}
+use Rattle.std.specs.Prelude.{◌≡◌, ◌≢◌, ◌⊎◌, ℕ, List, ◌++◌, take, codes, None, Some}
 use Rattle.std.specs.Fmt.{decimal, signed_decimal}
-use Rattle.dev_traits.specs.Change.{Change, IsFaultless, IsKept, Grew}
+use Rattle.dev_traits.specs.Change.{Change, ScratchChange, IsFaultless, IsKept, IsScratchKept, Grew}
 use Rattle.svo_base.specs.declared.shapes.Triangle.{Triangle}
 use Rattle.svo_base.specs.declared.shapes.Cube.{Cube}
 use Rattle.tri_cube.specs.Verdicts.{Says as Judges}
@@ -36,8 +36,9 @@ pub record WhyMeans (question : WhyWords) (out : Change) (status : Status) : Typ
   pub kept : status ≢ Done → status ≢ Device Write → IsKept out
   pub answers : range_of_question question ≡ None → IsFaultless out → (status ≡ Done) ⊎ (status ≡ Memory)
 
--- a run of `why` reads nothing, and has no line where it is done
-pub record WhyRun (question : WhyWords) (input out err : Change) (status : Status) : Type 0 where
+-- a run of `why` reads nothing and keeps nothing on scratch, and has no line where it is done
+pub record WhyRun (question : WhyWords) (input out : Change) (scratch : ScratchChange) (err : Change) (status : Status) : Type 0 where
   pub means : WhyMeans question out status
   pub unread : IsKept input
+  pub unspilled : IsScratchKept scratch
   pub silent : status ≡ Done → IsKept err

@@ -1,91 +1,135 @@
 //! The command `build`: a mesh in, a node file out.
 
-ghost use Rattle.std.specs.Prelude.{◌≡◌, ◌≤◌, true, false, unsigned_abs, None, IfSome};
-ghost use Rattle.dev_traits.specs.Change.{change_of};
+ghost use Rattle.std.specs.Prelude.{◌≡◌, ◌<◌, None, Some};
+ghost use Rattle.dev_traits.specs.Change.{change_of, scratch_change_of};
+ghost use Rattle.dev_traits.specs.Streams.{asked_of};
+ghost use Rattle.build_core.specs.Meshes.{IsJob};
+ghost use Rattle.room_plan.specs.Rooms.{HasRoomOf};
 ghost use Rattle.svo_top.specs.Build.{BuildMeans};
+ghost use Rattle.svo_top.specs.CoreRuns.{BuildsJob};
 ghost use Rattle.svo_top.specs.Causes.{DeviceCause};
-ghost use Rattle.svo_top.specs.Endings.{status_of, status_of_mesh, EndsBuild};
-ghost use Rattle.svo_top.specs.Ranges.{RangeIs, has_decimals, range_of_build};
+ghost use Rattle.svo_top.specs.Endings.{status_of, ending_of, EndsBuild};
+ghost use Rattle.svo_top.specs.Ranges.{RangeIs, job_from, range_of_build};
 
-use crate::outcome::{Device, InputKind, RangeFault, Status};
-use crate::planning::planned;
+use crate::jobs::job_from;
+use crate::outcome::{Device, InputKind, Status};
 use crate::reporting::{Counts, Ending};
-use dev_traits::{ByteSink, ByteSource, Failed};
-use ply_reader::{MeshFault, PlyFault, read_mesh};
+use build_core::{BuildFault, Built, Job, build_core};
+use dev_traits::{ByteSink, ByteSource, Scratch};
+use room_plan::Room;
 use std::alloc::{AllocError, Global};
-use svo_base::Grid;
-use svo_words::BuildWords;
+use std::marker::Brand;
+use std::sync::ledger::{Blank, Ledger};
+use svo_base::Steps;
+use svo_words::{BuildWords, Text};
 
-/// How many bytes of the mesh are asked for at a time.
-const BLOCK_SIZE: usize = 4096;
-
-/// Builds the octree of the mesh on `input`, and puts its node file out. The mesh is read to its end
-/// and accepted before anything is put out.
-pub fn build<I: ByteSource, O: ByteSink>(
+/// Builds the octree of the mesh on `input`, and puts its node file out, in the memory that the words
+/// allow. All of it is asked for before anything is read. The mesh is read to its end and accepted
+/// before anything is put out.
+pub fn build<I: ByteSource, O: ByteSink, S: Scratch>(
     alloc: Global,
-    job: &BuildWords,
+    words: &BuildWords,
     input: &mut I,
     out: &mut O,
+    scratch: &mut S,
 ) -> Ending
-    ensures range { RangeIs (range_of_build job.now) (status_of result) }
-    ensures ends { EndsBuild job.now
+    requires unasked { S.asked scratch.old ≡ None }
+    ensures range { RangeIs (range_of_build words.now) (status_of result) }
+    ensures ends { EndsBuild words.now
         (change_of I.rest I.faults input.old input.new)
-        (change_of O.written O.faults out.old out.new) result }
-    ensures means { BuildMeans job.now
+        (change_of O.written O.faults out.old out.new)
+        (scratch_change_of S.told S.asked S.faults scratch.old scratch.new) result }
+    ensures means { BuildMeans words.now
         (change_of I.rest I.faults input.old input.new)
-        (change_of O.written O.faults out.old out.new) (status_of result) }
+        (change_of O.written O.faults out.old out.new)
+        (scratch_change_of S.told S.asked S.faults scratch.old scratch.new) (status_of result) }
     ensures read { DeviceCause Device.Read (change_of I.rest I.faults input.old input.new) (status_of result) }
     ensures write { DeviceCause Device.Write (change_of O.written O.faults out.old out.new) (status_of result) }
+    ensures scratch { DeviceCause Device.Scratch (change_of S.told S.faults scratch.old scratch.new) (status_of result) }
 {
-    let Some(decimals) = decimals_of(job) else {
-        return Ending::Stopped(Status::Range(RangeFault::Decimals));
+    let job = match job_from(words) {
+        Err(fault) => return Ending::Stopped(Status::Range(fault)),
+        Ok(job) => job,
     };
-    let grid = match Grid::new(job.depth, job.origin, job.cell) {
-        Err(fault) => return Ending::Stopped(Status::Range(RangeFault::Grid(fault))),
-        Ok(grid) => grid,
-    };
-    let mut block = [0; BLOCK_SIZE];
-    let mesh = match read_mesh(alloc, input, &mut block, decimals, job.cut) {
-        Err(fault) => return Ending::Stopped(status_of_mesh(fault)),
-        Ok(mesh) => mesh,
-    };
-    let plan = match planned(alloc, &grid, &mesh) {
+    let mut room = match Room::make(alloc, &job.plan) {
         Err(AllocError) => return Ending::Stopped(Status::Memory),
-        Ok(plan) => plan,
+        Ok(room) => room,
     };
-    match out.put(plan.bytes.as_slice()) {
-        Err(Failed) => Ending::Stopped(Status::Device(Device::Write)),
-        Ok(()) => Ending::Built(Counts {
-            cells: plan.cells,
-            records: plan.records,
-            parts: 1,
+    let place = &words.scratch;
+    ending_of(build_in(&job, place, input, out, scratch, &mut room))
+}
+
+/// Builds in a room, with a counter of moves and one of tests of its own.
+fn build_in<I: ByteSource, O: ByteSink, S: Scratch>(
+    job: &Job,
+    place: &Text,
+    input: &mut I,
+    out: &mut O,
+    scratch: &mut S,
+    room: &mut Room,
+) -> Result<Built, BuildFault>
+    requires job { IsJob job.now }
+    requires room { HasRoomOf job.now.plan room.old }
+    requires unasked { S.asked scratch.old ≡ None }
+    ensures { BuildsJob job.now place.now
+        (change_of I.rest I.faults input.old input.new)
+        (change_of O.written O.faults out.old out.new)
+        (scratch_change_of S.told S.asked S.faults scratch.old scratch.new) result }
+{
+    let moves = Blank::new(1);
+    let tests = Blank::new(1);
+    build_counted::<I, O, S, Brand, Brand>(job, place, input, out, scratch, room, moves, tests)
+}
+
+/// The same, with the counters in the ledgers that the blanks are for.
+fn build_counted<I: ByteSource, O: ByteSink, S: Scratch, L: Ledger, T: Ledger>(
+    job: &Job,
+    place: &Text,
+    input: &mut I,
+    out: &mut O,
+    scratch: &mut S,
+    room: &mut Room,
+    moves: Blank,
+    tests: Blank,
+) -> Result<Built, BuildFault>
+    requires moves_name { moves.name ≡ L.name }
+    requires moves_parts { moves.parts ≡ L.parts }
+    requires moves_one { 0 < moves.parts }
+    requires tests_name { tests.name ≡ T.name }
+    requires tests_parts { tests.parts ≡ T.parts }
+    requires tests_one { 0 < tests.parts }
+    requires job { IsJob job.now }
+    requires room { HasRoomOf job.now.plan room.old }
+    requires unasked { S.asked scratch.old ≡ None }
+    ensures { BuildsJob job.now place.now
+        (change_of I.rest I.faults input.old input.new)
+        (change_of O.written O.faults out.old out.new)
+        (scratch_change_of S.told S.asked S.faults scratch.old scratch.new) result }
+{
+    let mut moves = Steps::<L>::new(moves);
+    let mut tests = Steps::<T>::new(tests);
+    let place = place.as_str();
+    build_core(
+        job, place, input, scratch, out, room, &mut moves, &mut tests,
+    )
+}
+
+/// How a build ends.
+fn ending_of(answer: Result<Built, BuildFault>) -> Ending
+    ensures { result ≡ ending_of answer }
+{
+    match answer {
+        Ok(built) => Ending::Built(Counts {
+            cells: built.cells,
+            records: built.records,
+            parts: built.parts,
         }),
-    }
-}
-
-/// How many decimals are kept, if from 0 to 9.
-fn decimals_of(job: &BuildWords) -> Option<u32>
-    ensures named { IfSome result (λ decimals. (has_decimals job.now ≡ true) × (decimals ≡ unsigned_abs job.now.decimals)) }
-    ensures few { IfSome result (λ decimals. decimals ≤ 9) }
-    ensures none { result ≡ None → has_decimals job.now ≡ false }
-{
-    if (0..=9).contains(&job.decimals) {
-        Some(job.decimals.unsigned_abs() as u32)
-    } else {
-        None
-    }
-}
-
-/// How a build ends that got no mesh.
-fn status_of_mesh(fault: MeshFault) -> Status
-    ensures { result ≡ status_of_mesh fault }
-{
-    match fault {
-        MeshFault::Text(PlyFault::Refused { kind, place }) => Status::Input {
+        Err(BuildFault::Input { kind, place }) => Ending::Stopped(Status::Input {
             kind: InputKind::Ply(kind),
             place,
-        },
-        MeshFault::Text(PlyFault::ReadFault) => Status::Device(Device::Read),
-        MeshFault::Memory => Status::Memory,
+        }),
+        Err(BuildFault::ReadFault) => Ending::Stopped(Status::Device(Device::Read)),
+        Err(BuildFault::ScratchFault) => Ending::Stopped(Status::Device(Device::Scratch)),
+        Err(BuildFault::WriteFault) => Ending::Stopped(Status::Device(Device::Write)),
     }
 }

@@ -1,6 +1,6 @@
 //! The command `why`: why a triangle and a cube share a point, or do not.
 
-ghost use Rattle.std.specs.Prelude.{◌≡◌, ◌≤◌, ◌+◌, ◌++◌, length};
+ghost use Rattle.std.specs.Prelude.{◌≢◌, ◌≡◌, ◌≤◌, ◌+◌, ◌++◌, length};
 ghost use Rattle.std.specs.Fmt.{signed_decimal};
 ghost use Rattle.arrayvec.specs.ArrayString.{array_string_len};
 ghost use Rattle.dev_traits.specs.Change.{change_of};
@@ -26,6 +26,7 @@ type AnswerLine = ArrayString<136>;
 pub fn explain<O: ByteSink>(question: &WhyWords, out: &mut O) -> Ending
     ensures range { RangeIs (range_of_question question.now) (status_of result) }
     ensures ends { EndsWhy result }
+    ensures remembers { status_of result ≢ Status.Memory }
     ensures means { WhyMeans question.now (change_of O.written O.faults out.old out.new) (status_of result) }
     ensures write { DeviceCause Device.Write (change_of O.written O.faults out.old out.new) (status_of result) }
 {

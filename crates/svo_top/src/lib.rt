@@ -3,10 +3,8 @@
 
 mod building;
 mod explaining;
-mod filled_cells;
-mod meshes;
+mod jobs;
 mod outcome;
-mod planning;
 mod questions;
 mod reporting;
 mod running;
@@ -17,8 +15,14 @@ pub use running::run;
 #[cfg(test)]
 mod error_output_tests;
 #[cfg(test)]
+mod failing_tests;
+#[cfg(test)]
+mod memory_runs;
+#[cfg(test)]
 mod mesh_tests;
 #[cfg(test)]
 mod question_tests;
 #[cfg(test)]
 mod tests;
+#[cfg(test)]
+mod words_tests;

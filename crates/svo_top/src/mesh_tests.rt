@@ -1,35 +1,8 @@
 //! Meshes as usual tools write them, and texts that are refused.
 
-use crate::{InputKind, Status, run};
-use dev_traits::{MemSink, MemSource};
+use crate::memory_runs::{Devices, HONEST, run_over};
+use crate::{InputKind, Status};
 use ply_reader::PlyKind;
-use std::alloc::{AllocError, Global};
-use svo_base::Words;
-
-/// What a run left: its status, the word of each record, and its line.
-#[derive(Drop)]
-struct Outcome {
-    status: Status,
-    out: MemSink,
-    err: MemSink,
-}
-
-fn run_over(
-    alloc: Global,
-    words: &[&str],
-    text: &[u8],
-    piece: usize,
-) -> Result<Outcome, AllocError> {
-    let mut list = Words::new(alloc);
-    for word in words {
-        list.push(word)?;
-    }
-    let mut input = MemSource::new(alloc, text, piece.max(1), &[])?;
-    let mut out = MemSink::new(alloc, 256, &[])?;
-    let mut err = MemSink::new(alloc, 128, &[])?;
-    let status = run(alloc, &list, &mut input, &mut out, &mut err);
-    Ok(Outcome { status, out, err })
-}
 
 /// A square as usual tools write it: lines that end with CR LF, comments, normals, colours, a quad, and
 /// numbers in many spellings.
@@ -40,11 +13,12 @@ const SQUARE: &str =
 const FINE: &str =
     "ply\nformat ascii 1.0\nelement vertex 3\nproperty float x\nproperty float y\nproperty float z\nelement face 1\nproperty list uchar int vertex_indices\nend_header\n0 0 0.00447467\n1 0 0\n0 1 0\n3 0 1 2\n";
 
-/// Words, a text, and the word of the one record.
-const BUILT: &[(&[&str], &str, u8)] = &[
+/// Words, a text, the length of the file, and the mask of its last word, the root's.
+const BUILT: &[(&[&str], &str, usize, u8)] = &[
     (
         &["build", "--depth", "1", "--origin=0,0,0", "--cell", "100"],
         SQUARE,
+        120,
         15,
     ),
     (
@@ -60,20 +34,22 @@ const BUILT: &[(&[&str], &str, u8)] = &[
             "2147483648",
         ],
         FINE,
+        96,
         1,
     ),
 ];
 
 #[test]
 fn builds_meshes_as_usual_tools_write_them(rt: HostRuntime) {
-    for (words, text, word) in BUILT.iter().copied() {
+    for (words, text, length, mask) in BUILT.iter().copied() {
         for piece in [1, 7, 4096] {
-            let ran = run_over(rt.alloc(), words, text.as_bytes(), piece).expect(&rt, "memory");
+            let devices = Devices { piece, ..HONEST };
+            let ran = run_over(rt.alloc(), words, text.as_bytes(), &devices).expect(&rt, "memory");
             assert_eq!(rt; ran.status, Status::Done, "with reads of {piece}");
-            assert_eq!(rt; ran.out.bytes().len(), 88, "with reads of {piece}");
+            assert_eq!(rt; ran.out.bytes().len(), length, "with reads of {piece}");
             assert_eq!(rt;
-                ran.out.bytes().get(48).copied(),
-                Some(word),
+                ran.out.bytes().get(length.saturating_sub(40)).copied(),
+                Some(mask),
                 "with reads of {piece}"
             );
         }
@@ -98,12 +74,12 @@ fn spellings_of_one_triangle_give_one_file(rt: HostRuntime) {
     for body in SAME_TRIANGLE {
         let text = format!(in rt.alloc(); "{HEADER}{body}").expect(&rt, "memory");
         let words = ["build", "--depth=1", "--origin=0,0,0", "--cell=1"];
-        let ran = run_over(rt.alloc(), &words, text.as_bytes(), 7).expect(&rt, "memory");
+        let ran = run_over(rt.alloc(), &words, text.as_bytes(), &HONEST).expect(&rt, "memory");
         assert_eq!(rt; ran.status, Status::Done, "for {body}");
-        assert_eq!(rt; ran.out.bytes().get(48).copied(), Some(7), "for {body}");
+        assert_eq!(rt; ran.out.bytes().get(72).copied(), Some(7), "for {body}");
         assert_eq!(rt;
             ran.err.bytes(),
-            "built cells 3 records 1 parts 1\n".as_bytes(),
+            "built cells 3 records 4 parts 1\n".as_bytes(),
             "for {body}"
         );
     }
@@ -160,7 +136,7 @@ fn refuses_a_text_with_its_kind_and_place(rt: HostRuntime) {
     for (body, kind, place, line) in REFUSED.iter().copied() {
         let text = format!(in rt.alloc(); "{HEADER}{body}").expect(&rt, "memory");
         let words = ["build", "--depth=1", "--origin=0,0,0", "--cell=1"];
-        let ran = run_over(rt.alloc(), &words, text.as_bytes(), 7).expect(&rt, "memory");
+        let ran = run_over(rt.alloc(), &words, text.as_bytes(), &HONEST).expect(&rt, "memory");
         let refused = Status::Input {
             kind: InputKind::Ply(kind),
             place,
@@ -177,7 +153,7 @@ fn refuses_what_is_no_mesh_or_not_whole(rt: HostRuntime) {
         rt.alloc(),
         &["build", "--depth=1", "--origin=0,0,0", "--cell=1"],
         b"",
-        7,
+        &HONEST,
     )
     .expect(&rt, "memory");
     assert_eq!(rt;
@@ -195,7 +171,7 @@ fn refuses_what_is_no_mesh_or_not_whole(rt: HostRuntime) {
             "--cell=2147483648",
         ],
         FINE.as_bytes(),
-        7,
+        &HONEST,
     )
     .expect(&rt, "memory");
     assert_eq!(rt;

@@ -48,6 +48,10 @@ pub enum RangeFault {
     Decimals,
     /// A limit of the grid.
     Grid(GridFault),
+    /// The memory is above 2^31 bytes.
+    Memory,
+    /// The memory is below the least for the depth, which is carried, in bytes.
+    LeastMemory(u64),
     /// A coordinate of the triangle has a size above 2^30.
     Triangle,
     /// A coordinate of the cube's lower corner has a size above 2^32, or its side is not from 1 to 2^32.
@@ -59,6 +63,8 @@ pub enum RangeFault {
 pub enum Device {
     /// The input.
     Read,
+    /// The scratch.
+    Scratch,
     /// The output.
     Write,
 }

@@ -1,36 +1,27 @@
 //! Why a triangle and a cube share a point, or do not.
 
-use crate::{Device, RangeFault, Status, UsageKind, run};
-use dev_traits::{MemSink, MemSource, PartFail};
+use crate::memory_runs::{Devices, HONEST, Outcome, run_over};
+use crate::{Device, RangeFault, Status, UsageKind};
+use dev_traits::PartFail;
 use std::alloc::{AllocError, Global};
-use svo_base::Words;
 
-/// What a run left.
-#[derive(Drop)]
-struct Answer {
-    status: Status,
-    out: MemSink,
-    err: MemSink,
-}
+/// Devices whose input and scratch refuse the first call, so that no question may ask them.
+const UNASKED: Devices<'static> = Devices {
+    read_fails: &[1],
+    streams: 0,
+    ..HONEST
+};
 
-/// Asks about a triangle and a cube, over an output with a room, whose first put fails where it is told.
+/// Asks about a triangle and a cube.
 fn answer_to(
     alloc: Global,
     triangle: &str,
     cube: &str,
-    room: usize,
-    put_fails: &[PartFail],
-) -> Result<Answer, AllocError> {
-    let mut words = Words::new(alloc);
+    devices: &Devices,
+) -> Result<Outcome, AllocError> {
     let triangle = format!(in alloc; "--triangle={triangle}")?;
-    for word in ["why", triangle.as_str(), "--cube", cube] {
-        words.push(word)?;
-    }
-    let mut input = MemSource::new(alloc, b"untouched", 7, &[1])?;
-    let mut out = MemSink::new(alloc, room, put_fails)?;
-    let mut err = MemSink::new(alloc, 32, &[])?;
-    let status = run(alloc, &words, &mut input, &mut out, &mut err);
-    Ok(Answer { status, out, err })
+    let words = ["why", triangle.as_str(), "--cube", cube];
+    run_over(alloc, &words, b"untouched", devices)
 }
 
 /// A triangle, a cube, and the answer.
@@ -50,7 +41,7 @@ const ANSWERS: &[(&str, &str, &str)] = &[
 #[test]
 fn answers_why(rt: HostRuntime) {
     for (triangle, cube, line) in ANSWERS.iter().copied() {
-        let answer = answer_to(rt.alloc(), triangle, cube, 64, &[]).expect(&rt, "memory");
+        let answer = answer_to(rt.alloc(), triangle, cube, &UNASKED).expect(&rt, "memory");
         assert_eq!(rt; answer.status, Status::Done, "for {triangle} and {cube}");
         assert_eq!(rt;
             answer.out.bytes(),
@@ -104,7 +95,7 @@ const REFUSED: &[(&str, &str, Status, &str)] = &[
 #[test]
 fn names_what_is_out_of_range(rt: HostRuntime) {
     for (triangle, cube, status, line) in REFUSED.iter().copied() {
-        let answer = answer_to(rt.alloc(), triangle, cube, 64, &[]).expect(&rt, "memory");
+        let answer = answer_to(rt.alloc(), triangle, cube, &UNASKED).expect(&rt, "memory");
         assert_eq!(rt; answer.status, status, "for {triangle} and {cube}");
         assert_eq!(rt;
             answer.err.bytes(),
@@ -118,7 +109,11 @@ fn names_what_is_out_of_range(rt: HostRuntime) {
 #[test]
 fn an_answer_that_is_cut_off_is_a_fault_of_the_output(rt: HostRuntime) {
     let fails = [PartFail { call: 1, taken: 3 }];
-    let answer = answer_to(rt.alloc(), "4,0,0,0,4,0,0,0,4", "0,0,0,1", 64, &fails).expect(
+    let devices = Devices {
+        put_fails: &fails,
+        ..UNASKED
+    };
+    let answer = answer_to(rt.alloc(), "4,0,0,0,4,0,0,0,4", "0,0,0,1", &devices).expect(
         &rt, "memory",
     );
     assert_eq!(rt;

@@ -96,7 +96,7 @@ fn stop_line(status: &Status) -> Line
         Status::Done => Line::new(),
         Status::Usage(kind) => worded_line("usage: ", usage_word(*kind)),
         Status::Input { kind, place } => placed_line(input_word(*kind), *place),
-        Status::Range(fault) => worded_line("range: ", range_word(*fault)),
+        Status::Range(fault) => range_line(*fault),
         Status::Device(device) => worded_line("device: ", device_word(*device)),
         Status::Memory => worded_line("memory", ""),
     }
@@ -183,16 +183,25 @@ fn ply_word(kind: PlyKind) -> &'static str
     }
 }
 
-fn range_word(fault: RangeFault) -> &'static str
-    ensures word { result.now ≡ range_word fault }
-    ensures short { length result.now ≤ 32 }
+/// The line of a range that a number is out of.
+fn range_line(fault: RangeFault) -> Line
+    ensures { result.bytes ≡ codes "range: " ++ range_word fault ++ codes "\n" }
 {
+    let mut line = Line::new();
+    line.push_str("range: ");
     match fault {
-        RangeFault::Decimals => "decimals",
-        RangeFault::Grid(fault) => grid_word(fault),
-        RangeFault::Triangle => "triangle",
-        RangeFault::Cube => "cube",
+        RangeFault::Decimals => line.push_str("decimals"),
+        RangeFault::Grid(fault) => line.push_str(grid_word(fault)),
+        RangeFault::Memory => line.push_str("memory"),
+        RangeFault::LeastMemory(least) => {
+            line.push_str("memory least ");
+            push_number(&mut line, least);
+        }
+        RangeFault::Triangle => line.push_str("triangle"),
+        RangeFault::Cube => line.push_str("cube"),
     }
+    line.push_str("\n");
+    line
 }
 
 fn grid_word(fault: GridFault) -> &'static str
@@ -213,6 +222,7 @@ fn device_word(device: Device) -> &'static str
 {
     match device {
         Device::Read => "read",
+        Device::Scratch => "scratch",
         Device::Write => "write",
     }
 }

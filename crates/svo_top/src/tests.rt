@@ -1,46 +1,8 @@
-use crate::{Device, RangeFault, Status, UsageKind, run};
-use dev_traits::{MemSink, MemSource, PartFail};
+//! The node files of worked meshes.
+
+use crate::Status;
+use crate::memory_runs::{HONEST, run_over};
 use std::alloc::{AllocError, Global};
-use svo_base::{GridFault, Words};
-
-/// What a run left.
-#[derive(Drop)]
-struct Outcome {
-    status: Status,
-    out: MemSink,
-    err: MemSink,
-}
-
-/// How the devices of a run behave: which reads and puts are refused, and the room of the output.
-#[derive(Clone, Copy)]
-struct Devices<'a> {
-    read_fails: &'a [u64],
-    put_fails: &'a [PartFail],
-    room: usize,
-}
-
-const HONEST: Devices<'static> = Devices {
-    read_fails: &[],
-    put_fails: &[],
-    room: 1024,
-};
-
-fn run_over(
-    alloc: Global,
-    words: &[&str],
-    text: &[u8],
-    devices: &Devices,
-) -> Result<Outcome, AllocError> {
-    let mut list = Words::new(alloc);
-    for word in words {
-        list.push(word)?;
-    }
-    let mut input = MemSource::new(alloc, text, 7, devices.read_fails)?;
-    let mut out = MemSink::new(alloc, devices.room, devices.put_fails)?;
-    let mut err = MemSink::new(alloc, 128, &[])?;
-    let status = run(alloc, &list, &mut input, &mut out, &mut err);
-    Ok(Outcome { status, out, err })
-}
 
 /// The text of a mesh in the plain form.
 fn text_of(
@@ -67,21 +29,24 @@ fn bytes_of(alloc: Global, groups: &[u64]) -> Result<Vec<u8>, AllocError> {
 const FLAT: &str = "0 0 0\n1 0 0\n0 1 0\n";
 
 const FLAT_FILE: &[u64] = &[
-    0x53564f4355424531,
+    0x53564f4355424532,
     0x0100000000000000,
     0,
     0,
     0,
+    0x0100000000000000,
+    0x0100000000000000,
+    0x0100000000000000,
     0x0100000000000000,
     0x0700000000000000,
     0,
-    0x0100000000000000,
+    0x0400000000000000,
     0x0300000000000000,
-    0x53564f43454e4431,
+    0x53564f43454e4432,
 ];
 
 const EMPTY_FILE: &[u64] = &[
-    0x53564f4355424531,
+    0x53564f4355424532,
     0x0100000000000000,
     0,
     0,
@@ -91,47 +56,94 @@ const EMPTY_FILE: &[u64] = &[
     0,
     0x0100000000000000,
     0,
-    0x53564f43454e4431,
+    0x53564f43454e4432,
 ];
 
 const POINT_FILE: &[u64] = &[
-    0x53564f4355424531,
+    0x53564f4355424532,
     0x0200000000000000,
     0,
     0,
     0,
+    0x0100000000000000,
+    0x0100000000000000,
+    0x0100000000000000,
+    0x0100000000000000,
+    0x0100000000000000,
+    0x0100000000000000,
+    0x0100000000000000,
+    0x0100000000000000,
     0x0100000000000000,
     0x8000000000000000,
-    0x4000000000000000,
-    0x2000000000000000,
-    0x1000000000000000,
-    0x0800000000000000,
-    0x0400000000000000,
-    0x0200000000000000,
-    0x0100000000000000,
-    0xff00000000000000,
+    0x4001000000000000,
+    0x2002000000000000,
+    0x1003000000000000,
+    0x0804000000000000,
+    0x0405000000000000,
+    0x0206000000000000,
+    0x0107000000000000,
+    0xff08000000000000,
     0,
-    0x0900000000000000,
+    0x1100000000000000,
     0x0800000000000000,
-    0x53564f43454e4431,
+    0x53564f43454e4432,
+];
+
+const DEEPER_POINT_FILE: &[u64] = &[
+    0x53564f4355424532,
+    0x0300000000000000,
+    0,
+    0,
+    0,
+    0x0100000000000000,
+    0x0100000000000000,
+    0x0100000000000000,
+    0x0100000000000000,
+    0x0100000000000000,
+    0x0100000000000000,
+    0x0100000000000000,
+    0x0100000000000000,
+    0x0100000000000000,
+    0x8000000000000000,
+    0x4001000000000000,
+    0x2002000000000000,
+    0x1003000000000000,
+    0x0804000000000000,
+    0x0405000000000000,
+    0x0206000000000000,
+    0x0107000000000000,
+    0xff08000000000000,
+    0x0110000000000000,
+    0,
+    0x1200000000000000,
+    0x0800000000000000,
+    0x53564f43454e4432,
 ];
 
 const ALL_EIGHT_FILE: &[u64] = &[
-    0x53564f4355424531,
+    0x53564f4355424532,
     0x0100000000000000,
     0x000000c0ffffffff,
     0x000000c0ffffffff,
     0x000000c0ffffffff,
     0x0000008000000000,
+    0x0100000000000000,
+    0x0100000000000000,
+    0x0100000000000000,
+    0x0100000000000000,
+    0x0100000000000000,
+    0x0100000000000000,
+    0x0100000000000000,
+    0x0100000000000000,
     0xff00000000000000,
     0,
-    0x0100000000000000,
+    0x0900000000000000,
     0x0800000000000000,
-    0x53564f43454e4431,
+    0x53564f43454e4432,
 ];
 
 const FAR_FILE: &[u64] = &[
-    0x53564f4355424531,
+    0x53564f4355424532,
     0x0100000000000000,
     0x0a00000000000000,
     0x0a00000000000000,
@@ -141,22 +153,40 @@ const FAR_FILE: &[u64] = &[
     0,
     0x0100000000000000,
     0,
-    0x53564f43454e4431,
+    0x53564f43454e4432,
 ];
 
 const CORNER_FILE: &[u64] = &[
-    0x53564f4355424531,
+    0x53564f4355424532,
     0x0200000000000000,
     0,
     0,
     0,
     0x0100000000000000,
+    0x0100000000000000,
     0x8000000000000000,
-    0x8000000000000000,
+    0x8001000000000000,
+    0,
+    0x0300000000000000,
+    0x0100000000000000,
+    0x53564f43454e4432,
+];
+
+const FITTED_FILE: &[u64] = &[
+    0x53564f4355424532,
+    0x0100000000000000,
+    0x0500000000000000,
+    0,
     0,
     0x0200000000000000,
     0x0100000000000000,
-    0x53564f43454e4431,
+    0x0100000000000000,
+    0x0100000000000000,
+    0x0700000000000000,
+    0,
+    0x0400000000000000,
+    0x0300000000000000,
+    0x53564f43454e4432,
 ];
 
 const FLAT_GRID: &[&str] = &["build", "--depth", "1", "--origin=0,0,0", "--cell", "1"];
@@ -173,6 +203,27 @@ const WIDEST_GRID: &[&str] = &[
     "--cell",
     "2147483648",
 ];
+
+/// A grid of depth 3 in eight parts.
+const EIGHT_PARTS: &[&str] = &[
+    "build",
+    "--memory=14720",
+    "--depth=3",
+    "--origin=0,0,0",
+    "--cell=1",
+];
+
+/// The same grid in one part.
+const ONE_PART: &[&str] = &[
+    "build",
+    "--depth=3",
+    "--origin=0,0,0",
+    "--cell=1",
+    "--memory",
+    "2147483648",
+];
+
+const FITTED: &[&str] = &["build", "--fit", "--depth", "1"];
 
 /// A mesh, a grid, and the file and the line that they give.
 struct Build {
@@ -193,7 +244,7 @@ const BUILDS: &[Build] = &[
         faces: 1,
         face_lines: "3 0 1 2\n",
         file: FLAT_FILE,
-        line: "built cells 3 records 1 parts 1\n",
+        line: "built cells 3 records 4 parts 1\n",
     },
     Build {
         words: FLAT_GRID,
@@ -211,7 +262,7 @@ const BUILDS: &[Build] = &[
         faces: 1,
         face_lines: "3 0 0 0\n",
         file: POINT_FILE,
-        line: "built cells 8 records 9 parts 1\n",
+        line: "built cells 8 records 17 parts 1\n",
     },
     Build {
         words: WIDEST_GRID,
@@ -220,7 +271,7 @@ const BUILDS: &[Build] = &[
         faces: 1,
         face_lines: "3 0 1 2\n",
         file: ALL_EIGHT_FILE,
-        line: "built cells 8 records 1 parts 1\n",
+        line: "built cells 8 records 9 parts 1\n",
     },
     Build {
         words: FLAT_GRID,
@@ -229,7 +280,7 @@ const BUILDS: &[Build] = &[
         faces: 2,
         face_lines: "3 0 1 2\n3 2 1 0\n",
         file: FLAT_FILE,
-        line: "built cells 3 records 1 parts 1\n",
+        line: "built cells 3 records 4 parts 1\n",
     },
     Build {
         words: FAR_GRID,
@@ -247,7 +298,34 @@ const BUILDS: &[Build] = &[
         faces: 1,
         face_lines: "3 0 0 0\n",
         file: CORNER_FILE,
-        line: "built cells 1 records 2 parts 1\n",
+        line: "built cells 1 records 3 parts 1\n",
+    },
+    Build {
+        words: EIGHT_PARTS,
+        vertices: 1,
+        vertex_lines: "2 2 2\n",
+        faces: 1,
+        face_lines: "3 0 0 0\n",
+        file: DEEPER_POINT_FILE,
+        line: "built cells 8 records 18 parts 8\n",
+    },
+    Build {
+        words: ONE_PART,
+        vertices: 1,
+        vertex_lines: "2 2 2\n",
+        faces: 1,
+        face_lines: "3 0 0 0\n",
+        file: DEEPER_POINT_FILE,
+        line: "built cells 8 records 18 parts 1\n",
+    },
+    Build {
+        words: FITTED,
+        vertices: 3,
+        vertex_lines: "5 0 0\n9 0 0\n5 3 0\n",
+        faces: 1,
+        face_lines: "3 0 1 2\n",
+        file: FITTED_FILE,
+        line: "built cells 3 records 4 parts 1\n",
     },
 ];
 
@@ -270,212 +348,6 @@ fn builds_the_worked_meshes(rt: HostRuntime) {
         assert!(rt;
             ran.err.bytes() == case.line.as_bytes(),
             "the line at {lines}"
-        );
-    }
-}
-
-/// Wrong words, and the status and the line that they give.
-const WRONG_WORDS: &[(&[&str], Status, &str)] = &[
-    (&[], Status::Usage(UsageKind::Command), "usage: command\n"),
-    (
-        &["make"],
-        Status::Usage(UsageKind::Command),
-        "usage: command\n",
-    ),
-    (
-        &["--help"],
-        Status::Usage(UsageKind::Command),
-        "usage: command\n",
-    ),
-    (
-        &["build", "--depth"],
-        Status::Usage(UsageKind::Options),
-        "usage: options\n",
-    ),
-    (
-        &[
-            "build",
-            "--origin=0,0,0",
-            "--depth",
-            "1",
-            "--cell",
-            "1",
-            "--depth=1",
-        ],
-        Status::Usage(UsageKind::Options),
-        "usage: options\n",
-    ),
-    (
-        &["build", "--depth", "1", "--origin", "-1,0,0", "--cell", "1"],
-        Status::Usage(UsageKind::Options),
-        "usage: options\n",
-    ),
-    (
-        &[
-            "build",
-            "--depth",
-            "1",
-            "--origin=0,0,0",
-            "--cell",
-            "1",
-            "more",
-        ],
-        Status::Usage(UsageKind::Options),
-        "usage: options\n",
-    ),
-    (
-        &["build", "--depth", "x", "--origin=0,0,0", "--cell", "1"],
-        Status::Usage(UsageKind::Value),
-        "usage: value\n",
-    ),
-    (
-        &["build", "--depth", "1", "--origin=0,0", "--cell", "1"],
-        Status::Usage(UsageKind::Value),
-        "usage: value\n",
-    ),
-    (
-        &["build", "--depth", "13", "--origin=0,0,0", "--cell", "1"],
-        Status::Range(RangeFault::Grid(GridFault::Depth)),
-        "range: depth\n",
-    ),
-    (
-        &[
-            "build",
-            "--depth",
-            "13",
-            "--origin=0,0,0",
-            "--cell",
-            "1",
-            "--decimals",
-            "10",
-        ],
-        Status::Range(RangeFault::Decimals),
-        "range: decimals\n",
-    ),
-    (
-        &[
-            "build",
-            "--decimals=-1",
-            "--depth",
-            "1",
-            "--origin=0,0,0",
-            "--cell",
-            "1",
-        ],
-        Status::Range(RangeFault::Decimals),
-        "range: decimals\n",
-    ),
-    (
-        &[
-            "build",
-            "--depth",
-            "1",
-            "--origin=0,0,-1073741825",
-            "--cell",
-            "0",
-        ],
-        Status::Range(RangeFault::Grid(GridFault::Origin)),
-        "range: origin\n",
-    ),
-    (
-        &["build", "--depth", "1", "--origin=0,0,0", "--cell", "0"],
-        Status::Range(RangeFault::Grid(GridFault::Cell)),
-        "range: cell\n",
-    ),
-    (
-        &[
-            "build",
-            "--depth",
-            "1",
-            "--origin=0,0,0",
-            "--cell",
-            "2147483649",
-        ],
-        Status::Range(RangeFault::Grid(GridFault::TooWide)),
-        "range: wide\n",
-    ),
-];
-
-#[test]
-fn stops_where_the_words_are_wrong(rt: HostRuntime) {
-    for (words, status, line) in WRONG_WORDS.iter().copied() {
-        let ran = run_over(rt.alloc(), words, b"ply\n", &HONEST).expect(&rt, "memory");
-        assert_eq!(rt; ran.status, status, "for {line}");
-        assert!(rt; ran.out.bytes().is_empty(), "nothing is put out for {line}");
-        assert!(rt; ran.err.bytes() == line.as_bytes(), "the line {line}");
-    }
-}
-
-/// Devices that fail, which of them is named, how many bytes were taken, and the line.
-const FAILING: &[(Devices, Device, usize, &str)] = &[
-    (
-        Devices {
-            read_fails: &[1],
-            put_fails: &[],
-            room: 1024,
-        },
-        Device::Read,
-        0,
-        "device: read\n",
-    ),
-    (
-        Devices {
-            read_fails: &[9],
-            put_fails: &[],
-            room: 1024,
-        },
-        Device::Read,
-        0,
-        "device: read\n",
-    ),
-    (
-        Devices {
-            read_fails: &[],
-            put_fails: &[PartFail { call: 1, taken: 0 }],
-            room: 1024,
-        },
-        Device::Write,
-        0,
-        "device: write\n",
-    ),
-    (
-        Devices {
-            read_fails: &[],
-            put_fails: &[PartFail { call: 1, taken: 1 }],
-            room: 1024,
-        },
-        Device::Write,
-        1,
-        "device: write\n",
-    ),
-    (
-        Devices {
-            read_fails: &[],
-            put_fails: &[],
-            room: 100,
-        },
-        Device::Write,
-        100,
-        "device: write\n",
-    ),
-];
-
-#[test]
-fn names_the_device_that_failed(rt: HostRuntime) {
-    let text = text_of(rt.alloc(), 1, "2 2 2\n", 1, "3 0 0 0\n").expect(&rt, "memory");
-    let file = bytes_of(rt.alloc(), POINT_FILE).expect(&rt, "memory");
-    for (devices, device, taken, line) in FAILING.iter().copied() {
-        let ran = run_over(rt.alloc(), DEEPER_GRID, text.as_bytes(), &devices).expect(
-            &rt, "memory",
-        );
-        assert_eq!(rt; ran.status, Status::Device(device), "with {taken} bytes");
-        assert!(rt;
-            file.as_slice().get(..taken) == Some(ran.out.bytes()),
-            "the front of {taken} bytes"
-        );
-        assert!(rt;
-            ran.err.bytes() == line.as_bytes(),
-            "the line with {taken} bytes"
         );
     }
 }

@@ -1,5 +1,5 @@
 -- From the values of options to a command.
-use Rattle.std.proofs.Common.{◌≡◌, ℕ, ◌<◌, true, false, List, [], ◌∷◌, length, drop, Option, None, Some, Result, Ok, Err, IsErr, IsErrAnd, subst, inl, inr, arith, refl, sym, ap, ◌∙◌}
+use Rattle.std.proofs.Common.{◌≡◌, ℕ, ◌<◌, true, false, List, [], ◌∷◌, length, drop, Option, None, Some, option_map, Result, Ok, Err, IsErr, IsErrAnd, subst, inl, inr, arith, refl, sym, ap, ◌∙◌}
 use Rattle.std.specs.Prelude.{slice_index_or, IfSome, codes}
 use Rattle.std.specs.Option.{ok_or}
 use Rattle.std.specs.Str.{bytes_eq}
@@ -14,7 +14,7 @@ use Rattle.svo_words.specs.Matching.{HasFound}
 use Rattle.svo_words.specs.Lookups.{Lookup}
 use Rattle.svo_words.specs.Seen.{values_of}
 use Rattle.svo_words.specs.Forms.{CommandForm, commands, build_form, why_form, read_as, form_of}
-use Rattle.svo_words.specs.Reading.{IsRead, AreValues}
+use Rattle.svo_words.specs.Reading.{IsRead, IsMade, AreValues}
 use Rattle.svo_words.proofs.Choosing.{equal_bytes}
 use Rattle.svo_words.specs.declared.values.Values.{Values}
 use Rattle.svo_words.specs.declared.commands.Command.{Command}
@@ -73,6 +73,11 @@ value_read : (form : CommandForm) (o : Option (List Setting)) (values : Values) 
 value_read form None values answer e is = absurd e
 value_read form (Some settings) values answer e is = made_answer (form.reads (value_of settings)) answer (is ∙ (λ i. form.reads (λ name. e name i)))
 
+-- an answer with its value changed
+abbrev pub mapped_by : {A : Type 0} → (A → Command) → Result A WordFault → Result Command WordFault
+mapped_by variant (Ok a) = Ok (variant a)
+mapped_by variant (Err fault) = Err fault
+
 -- a command's reader, whose table is the form's
 pub fault_answer : (form : CommandForm) (choices : List Choice) (words : List (List ℕ)) (fault : WordFault) (result : Result Command WordFault) → choices ≡ form.choices
     → AreValues (settings_in choices words) (Err fault) → IsErr result × IsErrAnd result (λ e. e ≡ fault) → IsRead (read_as form (settings_in form.choices words)) result
@@ -88,6 +93,30 @@ pub value_answer : (form : CommandForm) (choices : List Choice) (words : List (L
 value_answer form choices words values answer table found is =
     let P : List Choice → Type 0 = λ options. IsRead (read_as form (settings_in options words)) (ok_or answer Value) in
     subst P table (value_read form (settings_in choices words) values answer found is)
+
+-- a command whose values want memory
+made_as : {A : Type 0} (variant : A → Command) (o : Option A) (result : Result A WordFault) → IsMade o result → IsRead (ok_or (option_map variant o) Value) (mapped_by variant result)
+made_as variant None result e = inl (ap (mapped_by variant) e)
+made_as variant (Some a) result (inl e) = inl (ap (mapped_by variant) e)
+made_as variant (Some a) result (inr e) = inr (ap (mapped_by variant) e)
+
+made_read_as : {A : Type 0} (variant : A → Command) (reads : Lookup → Option A) (name : List ℕ) (choices : List Choice) (words : List (List ℕ)) (values : Values) (result : Result A WordFault) → AreValues (settings_in choices words) (Ok values)
+    → IsMade (reads (values_of values)) result
+    → IsRead (read_as (record { name = name; choices = choices; reads = λ looks. option_map variant (reads looks) }) (settings_in choices words)) (mapped_by variant result)
+made_read_as variant reads name choices words values result found made = go (settings_in choices words) found
+  where
+    go : (o : Option (List Setting)) → AreValues o (Ok values) → IsRead (read_as (record { name = name; choices = choices; reads = λ looks. option_map variant (reads looks) }) o) (mapped_by variant result)
+    go None e = absurd e
+    go (Some settings) e =
+        let P : Lookup → Type 0 = λ looks. IsRead (ok_or (option_map variant (reads looks)) Value) (mapped_by variant result) in
+        subst P (λ i name. e name i) (made_as variant (reads (values_of values)) result made)
+
+pub made_answer_of : {A : Type 0} (variant : A → Command) (reads : Lookup → Option A) (name : List ℕ) (options choices : List Choice) (words : List (List ℕ)) (values : Values) (result : Result A WordFault) → options ≡ choices
+    → AreValues (settings_in options words) (Ok values) → IsMade (reads (values_of values)) result
+    → IsRead (read_as (record { name = name; choices = choices; reads = λ looks. option_map variant (reads looks) }) (settings_in choices words)) (mapped_by variant result)
+made_answer_of variant reads name options choices words values result table found made =
+    let P : List Choice → Type 0 = λ list. AreValues (settings_in list words) (Ok values) in
+    made_read_as variant reads name choices words values result (subst P table found) made
 
 -- ---- the first word
 

@@ -6,6 +6,7 @@ pub mod Digits
 pub mod FormTests
 pub mod Meanings
 pub mod NumberLists
+pub mod OneGrid
 pub mod Parts
 pub mod Rows
 pub mod Rules

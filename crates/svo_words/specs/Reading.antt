@@ -14,6 +14,11 @@ IsRead (Err Options) result = result ≡ Err Options
 IsRead (Err Value) result = (result ≡ Err Value) ⊎ (result ≡ Err Memory)
 IsRead (Err Memory) result = result ≡ Err Memory
 
+-- the values make this, or one of them is not of its kind; memory may run out where they do
+abbrev pub IsMade : {A : Type 0} → Option A → Result A WordFault → Type 0
+IsMade None result = result ≡ Err Value
+IsMade (Some a) result = (result ≡ Ok a) ⊎ (result ≡ Err Memory)
+
 -- the answer has the values of the settings, if there are some
 abbrev pub AreValues : Option (List Setting) → Result Values WordFault → Type 0
 AreValues None (Ok values) = ⊥

@@ -63,9 +63,9 @@ fn read_build(alloc: Global, words: &[String]) -> Result<Command, WordFault>
 {
     let choices = build_choices();
     let values = read_values(alloc, &choices, words)?;
-    match build_from(&values) {
-        None => Err(WordFault::Value),
-        Some(build) => Ok(Command::Build(build)),
+    match build_from(alloc, &values) {
+        Err(fault) => Err(fault),
+        Ok(build) => Ok(Command::Build(build)),
     }
 }
 

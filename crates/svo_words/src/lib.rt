@@ -15,7 +15,7 @@ mod why;
 pub use build::BuildWords;
 pub use commands::{Command, WordFault, read_words};
 pub use kinds::{AxisWord, KindWord, Text};
-pub use laws::{one_meaning, one_spelling};
+pub use laws::{one_grid, one_meaning, one_spelling};
 pub use why::WhyWords;
 
 #[cfg(test)]

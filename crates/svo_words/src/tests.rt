@@ -13,65 +13,153 @@ fn words_of(alloc: Global, words: &[&str]) -> Result<Words, AllocError> {
     Ok(list)
 }
 
-const BUILT: BuildWords = BuildWords {
+/// The values of a build that are no text.
+#[derive(Clone, Copy, Debug, PartialEq, Eq)]
+struct Numbers {
+    depth: i64,
+    memory: i64,
+    decimals: i64,
+    cut: bool,
+    fit: bool,
+    origin: Option<[i64; 3]>,
+    cell: Option<i64>,
+}
+
+const BUILT: Numbers = Numbers {
     depth: 4,
-    origin: [-1, 2, 3],
-    cell: 7,
+    memory: 268435456,
     decimals: 0,
     cut: false,
+    fit: false,
+    origin: Some([-1, 2, 3]),
+    cell: Some(7),
 };
 
-/// Ways to write one build.
-const BUILDS: &[&[&str]] = &[
-    &["build", "--depth", "4", "--origin=-1,2,3", "--cell", "7"],
-    &["build", "--depth=4", "--cell", "7", "--origin=-1,2,3"],
-    &["build", "--origin=-1,2,3", "--depth", "4", "--cell=7"],
-    &["build", "--origin=-1,2,3", "--cell", "7", "--depth=4"],
-    &["build", "--cell=7", "--depth=4", "--origin=-1,2,3"],
-    &["build", "--cell", "07", "--origin=-001,2,3", "--depth", "4"],
-    &[
-        "build",
-        "--decimals=0",
-        "--cell=7",
-        "--depth=4",
-        "--origin=-1,2,3",
-    ],
+const FITTED: Numbers = Numbers {
+    fit: true,
+    origin: None,
+    cell: None,
+    ..BUILT
+};
+
+fn numbers_of(build: &BuildWords) -> Numbers {
+    Numbers {
+        depth: build.depth,
+        memory: build.memory,
+        decimals: build.decimals,
+        cut: build.cut,
+        fit: build.fit,
+        origin: build.origin,
+        cell: build.cell,
+    }
+}
+
+/// Builds: their words, their numbers and the place of the scratch.
+const BUILDS: &[(&[&str], Numbers, &str)] = &[
+    (
+        &["build", "--depth", "4", "--origin=-1,2,3", "--cell", "7"],
+        BUILT,
+        "svo_scratch",
+    ),
+    (
+        &["build", "--depth=4", "--cell", "7", "--origin=-1,2,3"],
+        BUILT,
+        "svo_scratch",
+    ),
+    (
+        &["build", "--origin=-1,2,3", "--depth", "4", "--cell=7"],
+        BUILT,
+        "svo_scratch",
+    ),
+    (
+        &["build", "--cell=7", "--depth=4", "--origin=-1,2,3"],
+        BUILT,
+        "svo_scratch",
+    ),
+    (
+        &["build", "--cell", "07", "--origin=-001,2,3", "--depth", "4"],
+        BUILT,
+        "svo_scratch",
+    ),
+    (
+        &[
+            "build",
+            "--decimals=0",
+            "--scratch=svo_scratch",
+            "--cell=7",
+            "--depth=4",
+            "--memory=268435456",
+            "--origin=-1,2,3",
+        ],
+        BUILT,
+        "svo_scratch",
+    ),
+    (
+        &[
+            "build",
+            "--cut",
+            "--depth=4",
+            "--decimals",
+            "9",
+            "--origin=-1,2,3",
+            "--cell=7",
+        ],
+        Numbers {
+            decimals: 9,
+            cut: true,
+            ..BUILT
+        },
+        "svo_scratch",
+    ),
+    (
+        &[
+            "build",
+            "--memory",
+            "65536",
+            "--depth=4",
+            "--scratch",
+            "a/b c",
+            "--origin=-1,2,3",
+            "--cell=7",
+        ],
+        Numbers {
+            memory: 65536,
+            ..BUILT
+        },
+        "a/b c",
+    ),
+    (&["build", "--fit", "--depth", "4"], FITTED, "svo_scratch"),
+    (
+        &[
+            "build",
+            "--depth=4",
+            "--memory=-1",
+            "--cut",
+            "--scratch=x=y",
+            "--fit",
+        ],
+        Numbers {
+            memory: -1,
+            cut: true,
+            ..FITTED
+        },
+        "x=y",
+    ),
 ];
 
 #[test]
 fn builds_are_read_in_any_order(rt: HostRuntime) {
-    for words in BUILDS {
+    for (words, wanted, place) in BUILDS.iter().copied() {
         let list = words_of(rt.alloc(), words).expect(&rt, "memory");
         match read_words(rt.alloc(), &list) {
-            Ok(Command::Build(build)) => assert!(rt; build == BUILT, "the values of {words:?}"),
+            Ok(Command::Build(build)) => {
+                let found = numbers_of(&build);
+                assert!(rt; found == wanted, "the numbers of {words:?}");
+                assert!(rt; build.scratch.as_str() == place, "the place of {words:?}");
+            }
             Ok(_) => assert!(rt; false, "{words:?} are another command"),
             Err(fault) => assert!(rt; false, "{words:?} are refused: {fault}"),
         }
-    }
-}
-
-const CUT: BuildWords = BuildWords {
-    decimals: 9,
-    cut: true,
-    ..BUILT
-};
-
-#[test]
-fn decimals_and_a_cut_are_read(rt: HostRuntime) {
-    let words = [
-        "build",
-        "--cut",
-        "--depth=4",
-        "--decimals",
-        "9",
-        "--origin=-1,2,3",
-        "--cell=7",
-    ];
-    let list = words_of(rt.alloc(), &words).expect(&rt, "memory");
-    match read_words(rt.alloc(), &list) {
-        Ok(Command::Build(build)) => assert!(rt; build == CUT, "the values"),
-        Ok(_) => assert!(rt; false, "another command"),
-        Err(fault) => assert!(rt; false, "refused: {fault}"),
     }
 }
 
@@ -198,6 +286,41 @@ const REFUSED: &[(&[&str], WordFault)] = &[
             "--origin=0,0,0",
             "--cell=1",
         ],
+        WordFault::Value,
+    ),
+    (&["build", "--fit"], WordFault::Options),
+    (
+        &["build", "--fit", "--depth=1", "--origin=0,0,0"],
+        WordFault::Options,
+    ),
+    (
+        &["build", "--cell=1", "--depth=1", "--fit"],
+        WordFault::Options,
+    ),
+    (
+        &["build", "--depth=1", "--origin=0,0,0", "--fit", "--cell=1"],
+        WordFault::Options,
+    ),
+    (
+        &["build", "--fit", "--depth=1", "--fit"],
+        WordFault::Options,
+    ),
+    (&["build", "--fit=true", "--depth=1"], WordFault::Options),
+    (
+        &["build", "--fit", "--depth=1", "--memory", "-1"],
+        WordFault::Options,
+    ),
+    (
+        &["build", "--fit", "--depth=1", "--scratch", "-x"],
+        WordFault::Options,
+    ),
+    (&["build", "--depth", "x", "--fit"], WordFault::Value),
+    (
+        &["build", "--fit", "--depth=1", "--memory=1e9"],
+        WordFault::Value,
+    ),
+    (
+        &["build", "--fit", "--depth=1", "--scratch=-x"],
         WordFault::Value,
     ),
     (&["why", "--cube=0,0,0,2"], WordFault::Options),

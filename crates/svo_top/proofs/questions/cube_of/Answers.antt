@@ -1,4 +1,4 @@
-use Rattle.std.proofs.Common.{ℤ, ◌^◌, ◌≤◌, unsigned_abs, of_z, to_z, w64, subst, sym, ap, arith}
+use Rattle.std.proofs.Common.{ℤ, ◌^◌, ◌≤◌, unsigned_abs, of_z, to_z, w64, subst, sym, arith}
 use Rattle.morton_code.proofs.Sides.{all_of_three, plane_kept}
 use Rattle.svo_top.proofs.questions.cube_of.Goals as goal
 

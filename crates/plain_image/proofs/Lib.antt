@@ -1,4 +1,0 @@
-pub mod NodeCounts
-pub mod PassedCodes
-pub mod WrittenChildren
-pub mod Joining

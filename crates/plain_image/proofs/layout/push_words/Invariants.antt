@@ -1,8 +1,0 @@
--- The words so far are added.
-use Rattle.std.proofs.Common.{◌≡◌, ◌++◌, take}
-use Rattle.std.specs.List.{flat_map}
-use Rattle.std.specs.Int.{w64, to_le_bytes}
-use Rattle.plain_image.proofs.layout.push_words.Given as goal
-
-abbrev pub invariant-loop-word : goal.invariant-loop-word
-invariant-loop-word l = l.bytes.items ≡ l.fn.bytes.items ++ flat_map (to_le_bytes w64) (take l.word-index l.words)
