@@ -1,4 +1,5 @@
-//! Whole builds over devices in memory. Expected words were worked out by hand.
+//! Whole builds over devices in memory. Expected words were worked out by hand, or by a plain program
+//! of another language that tries each cell.
 
 ghost use Rattle.std.specs.Prelude.{◌≡◌, ◌<◌, ◌≤◌, None, IfSome};
 ghost use Rattle.room_plan.specs.Rooms.{HasRoomOf};
@@ -39,6 +40,35 @@ const AROUND: &[u64] = &[
 /// The same one level deeper.
 const AROUND_DEEPER: &[u64] = &[
     1, 1, 1, 1, 1, 1, 1, 1, 128, 320, 544, 784, 1032, 1284, 1538, 1793, 2303, 4097,
+];
+
+/// A triangle, a point and a quad whose corners lie about.
+const SCATTERED: Mesh = (
+    "6",
+    "3",
+    "1 2 5\n-3 4 0\n-3 -1 -2\n2 4 0\n3 5 -2\n0 -3 0\n3 2 1 3\n3 0 1 4\n4 3 1 1 0\n",
+);
+
+/// Four triangles that cross most parts of their grid, and whose corners lie outside of it too.
+const CROSSING: Mesh = (
+    "7",
+    "4",
+    "19 20 19\n3 2 21\n2 -3 19\n10 0 -4\n-7 16 19\n1 -9 -5\n-6 -7 3\n3 4 0 6\n3 2 3 4\n3 4 1 5\n3 3 0 5\n",
+);
+
+/// Their words in a grid of depth 3, by a program that tries each cell against each triangle and
+/// writes the words down from the root.
+const CROSSING_WORDS: &[u64] = &[
+    513, 769, 257, 257, 769, 257, 257, 257, 257, 257, 1, 513, 513, 1, 1, 1, 1, 257, 257, 257, 257,
+    257, 257, 1, 257, 513, 1, 257, 257, 769, 257, 1, 257, 16, 507, 2096, 2807, 4479, 6328, 7255,
+    257, 257, 769, 769, 769, 769, 769, 769, 769, 769, 769, 769, 769, 769, 769, 10309, 11185, 12036,
+    12511, 257, 15136, 769, 769, 15648, 15888, 513, 1, 1, 257, 513, 257, 257, 257, 257, 257, 1, 1,
+    1, 1, 257, 257, 1, 1, 1, 1, 1, 1, 1, 1, 257, 257, 257, 257, 257, 257, 257, 513, 257, 257, 257,
+    257, 513, 257, 513, 16878, 18261, 19455, 21455, 23022, 24385, 25079, 769, 769, 28428, 257, 257,
+    1, 1, 257, 1, 1, 1, 1, 1, 1, 1, 1, 513, 1, 1, 1, 1, 1, 1, 1, 1, 1, 1, 1, 1, 1, 29299, 30704,
+    31519, 32781, 33587, 34803, 769, 769, 1, 769, 1, 1, 769, 769, 769, 769, 1, 1, 1, 1, 1, 1, 1, 1,
+    1, 769, 1, 769, 1, 1, 1, 37882, 39237, 39952, 40204, 40947, 42463, 8699, 14165, 15376, 16176,
+    26751, 28932, 36339, 44251, 45823,
 ];
 
 /// A mesh, its grid, the memory, and what is built.
@@ -171,6 +201,51 @@ const ROWS: &[Row] = &[
         limit: 1 << 20,
         built: [1, 1, 1, 3, 1],
         words: &[1, 128, 384],
+    },
+    Row {
+        mesh: SCATTERED,
+        depth: 2,
+        origin: -2,
+        cell: 1,
+        limit: 14340,
+        built: [3, 4, 8, 12, 64],
+        words: &[1, 1, 1, 1, 1, 1, 1, 1, 4, 463, 1856, 2061],
+    },
+    Row {
+        mesh: SCATTERED,
+        depth: 2,
+        origin: -2,
+        cell: 1,
+        limit: 1 << 20,
+        built: [3, 4, 8, 12, 1],
+        words: &[1, 1, 1, 1, 1, 1, 1, 1, 4, 463, 1856, 2061],
+    },
+    Row {
+        mesh: CROSSING,
+        depth: 3,
+        origin: -3,
+        cell: 3,
+        limit: 14468,
+        built: [4, 4, 144, 187, 512],
+        words: CROSSING_WORDS,
+    },
+    Row {
+        mesh: CROSSING,
+        depth: 3,
+        origin: -3,
+        cell: 3,
+        limit: 14720,
+        built: [4, 4, 144, 187, 8],
+        words: CROSSING_WORDS,
+    },
+    Row {
+        mesh: CROSSING,
+        depth: 3,
+        origin: -3,
+        cell: 3,
+        limit: 1 << 31,
+        built: [4, 4, 144, 187, 1],
+        words: CROSSING_WORDS,
     },
 ];
 
