@@ -1,3 +1,4 @@
 pub mod Counts
+pub mod Stops
 pub mod Verdicts
 pub mod Walks

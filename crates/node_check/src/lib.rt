@@ -5,11 +5,13 @@ mod checking;
 mod following;
 mod queries;
 mod siblings;
+mod stops;
 mod walking;
 
 pub use checking::{CheckFault, check};
 pub use following::next_cell;
 pub use queries::{face_of, has};
+pub use stops::AnswerStop;
 pub use walking::WalkFault;
 
 #[cfg(test)]

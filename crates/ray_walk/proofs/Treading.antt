@@ -14,8 +14,8 @@ use Rattle.ray_walk.specs.Octants.{turn_of, visited}
 use Rattle.ray_walk.specs.Stays.{InBox, IsFlight}
 use Rattle.ray_walk.specs.Steps.{has_child, IsSpot, IsRefusal, IsPassed, IsTaken, IsStep, IsOnTree, IsWalked}
 use Rattle.ray_walk.specs.Walks.{MetUnder, IsBest, WithKnown, AreWithin, IsEntered}
-use Rattle.ray_walk.specs.declared.faults.WalkFault.{WalkFault}
-use Rattle.ray_walk.specs.declared.faults.WalkFault.TheVariants.{Failed}
+use Rattle.node_check.specs.declared.walking.WalkFault.{WalkFault}
+use Rattle.node_check.specs.declared.walking.WalkFault.TheVariants.{Failed}
 use Rattle.ray_walk.specs.declared.flights.Flight.{Flight}
 use Rattle.ray_walk.specs.declared.hits.Candidate.{Candidate}
 use Rattle.ray_walk.specs.declared.spots.Spot.{Spot}

@@ -2,8 +2,8 @@
 use Rattle.std.specs.Prelude.{◌≡◌, ℕ, ◌/◌, ◌%◌, ◌^◌, ◌<◌, ◌≤◌, ◌==◌, true, List, slice_index, Option, IfSome}
 use Rattle.dev_traits.specs.Faults.{Rose}
 use Rattle.octree_specs.specs.Walking.{child_number}
-use Rattle.ray_walk.specs.declared.faults.WalkFault.{WalkFault}
-use Rattle.ray_walk.specs.declared.faults.WalkFault.TheVariants.{Failed, Refused}
+use Rattle.node_check.specs.declared.walking.WalkFault.{WalkFault}
+use Rattle.node_check.specs.declared.walking.WalkFault.TheVariants.{Failed, Refused}
 
 -- the word, which has this number, places a child not before itself
 pub record IsMisplaced (number word : ℕ) : Type 0 where

@@ -8,8 +8,8 @@ use Rattle.ray_walk.specs.Faults.{IsMisplaced}
 use Rattle.ray_walk.specs.Octants.{visited}
 use Rattle.ray_walk.specs.Stays.{InBox, IsStay}
 use Rattle.ray_walk.specs.Walks.{MetUnder, IsBest, WithKnown, AreWithin, IsEntered}
-use Rattle.ray_walk.specs.declared.faults.WalkFault.{WalkFault}
-use Rattle.ray_walk.specs.declared.faults.WalkFault.TheVariants.{Failed, Refused}
+use Rattle.node_check.specs.declared.walking.WalkFault.{WalkFault}
+use Rattle.node_check.specs.declared.walking.WalkFault.TheVariants.{Failed, Refused}
 use Rattle.ray_walk.specs.declared.flights.Flight.{Flight}
 use Rattle.ray_walk.specs.declared.hits.Candidate.{Candidate}
 use Rattle.ray_walk.specs.declared.spots.Spot.{Spot}

@@ -11,12 +11,12 @@ ghost use Rattle.ray_walk.specs.Answers.{IsFirst, TellsCells};
 ghost use Rattle.ray_walk.specs.Faults.{IsCaused};
 ghost use Rattle.ray_walk.specs.Hitting.{IsTimed};
 
-use crate::faults::WalkFault;
 use crate::flights::Flight;
 use crate::hits::{Candidate, Hit};
 use crate::spots::Spot;
 use crate::walking::walk;
 use morton_code::cube_of;
+use node_check::WalkFault;
 use node_file::Records;
 use ray_fraction::{Ray, entry};
 use std::sync::ledger::Ledger;
@@ -42,6 +42,7 @@ pub fn cast<R: Records, L: Ledger>(
     ensures cause { IfErr result (IsCaused (R.file nodes.old).words (R.faults nodes.old) (R.faults nodes.new)) }
     ensures later { R.faults nodes.old ≤ R.faults nodes.new }
     ensures same { R.file nodes.new ≡ R.file nodes.old }
+    ensures lender { R.lender nodes.new ≡ R.lender nodes.old }
 {
     let grid = nodes.grid();
     let totals = nodes.totals();

@@ -4,7 +4,6 @@
 #![tactic(auto)]
 
 mod casting;
-mod faults;
 mod flights;
 mod hits;
 mod lanes;
@@ -12,7 +11,6 @@ mod spots;
 mod walking;
 
 pub use casting::cast;
-pub use faults::WalkFault;
 pub use hits::Hit;
 
 #[cfg(test)]

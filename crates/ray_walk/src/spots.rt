@@ -6,9 +6,9 @@ ghost use Rattle.octree_specs.specs.Walking.{child_number as number_of};
 ghost use Rattle.ray_walk.specs.Stays.{IsFlight};
 ghost use Rattle.ray_walk.specs.Steps.{IsRefusal, IsSpot, IsStep, has_child as has_bit, improves_on, is_sooner_than};
 
-use crate::faults::WalkFault;
 use crate::flights::{Flight, Stay};
 use crate::hits::Candidate;
+use node_check::WalkFault;
 
 /// A node above the cells: the number of its word, how many levels it stands above the cells, its
 /// Morton code, and its planes.

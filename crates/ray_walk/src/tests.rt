@@ -4,7 +4,7 @@
 ghost use Rattle.std.specs.Prelude.{◌≡◌, ◌<◌, ◌≤◌, ◌^◌, length};
 ghost use Rattle.svo_base.specs.GridShape.{IsGrid};
 
-use crate::{Hit, WalkFault, cast};
+use crate::{Hit, cast};
 use dev_traits::Failed;
 use morton_code::cube_of;
 use node_file::{Records, Totals};

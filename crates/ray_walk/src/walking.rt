@@ -9,10 +9,10 @@ ghost use Rattle.ray_walk.specs.Faults.{IsCaused};
 ghost use Rattle.ray_walk.specs.Stays.{IsFlight};
 ghost use Rattle.ray_walk.specs.Steps.{IsOnTree, IsSpot, IsWalked};
 
-use crate::faults::WalkFault;
 use crate::flights::Flight;
 use crate::hits::Candidate;
 use crate::spots::{Spot, Step, next};
+use node_check::WalkFault;
 use node_file::Records;
 use std::sync::ledger::Ledger;
 use svo_base::Steps;
@@ -36,6 +36,7 @@ pub fn walk<R: Records, L: Ledger>(
     ensures later { R.faults nodes.old ≤ R.faults nodes.new }
     ensures looked { R.looked nodes.new + reads.old ≤ R.looked nodes.old + reads.new }
     ensures same { R.file nodes.new ≡ R.file nodes.old }
+    ensures lender { R.lender nodes.new ≡ R.lender nodes.old }
 {
     let word = read(nodes, spot.number, reads)?;
     let mut best = known;
@@ -62,6 +63,7 @@ fn read<R: Records, L: Ledger>(
     ensures reads { reads.new ≡ reads.old + 1 }
     ensures looked { R.looked nodes.new ≤ R.looked nodes.old + 1 }
     ensures same { R.file nodes.new ≡ R.file nodes.old }
+    ensures lender { R.lender nodes.new ≡ R.lender nodes.old }
 {
     match nodes.word(number, reads) {
         Ok(word) => Ok(word),

@@ -3,7 +3,7 @@ use Rattle.std.proofs.Common.{◌≡◌, ◌-◌, None, IfOk, arith, refl, ap, s
 use Rattle.std.specs.Result.{IfErr}
 use Rattle.ray_walk.specs.Hitting.{IsTimed}
 use Rattle.ray_walk.specs.Walks.{MetUnder, IsBest, WithKnown}
-use Rattle.ray_walk.specs.declared.faults.WalkFault.TheVariants.{Failed}
+use Rattle.node_check.specs.declared.walking.WalkFault.TheVariants.{Failed}
 use Rattle.ray_walk.proofs.Roots.{best_root, entry_root, few_alike, few_from, first_from, none_hit, root_on_tree, within_root}
 use Rattle.ray_walk.proofs.Treading.{err_is}
 use Rattle.ray_walk.proofs.casting.cast.Goals as goal

@@ -19,6 +19,7 @@ loop-k-init g t c = (
   c.read.ensures.later,
   omega (arith, c.read.ensures.reads, c.read.ensures.looked),
   c.read.ensures.same,
+  c.read.ensures.lender,
 )
 
 pub returns-in_err-next-clause-walked : goal.returns-in_err-next-clause-walked
@@ -50,6 +51,7 @@ loop-k-preserved g t c =
             c.loop-k.invariant.3,
             c.loop-k.invariant.4,
             c.loop-k.invariant.5,
+            c.loop-k.invariant.6,
           )
       | in-Take w ↦ rw (w.nodes-is, w.reads-is, w.best-is) (
         treads_cell told flight spot c.args.known c.in_ok-word.word c.loop-k.k c.args.reads.now c.loop-k.reads c.loop-k.best w.in-Take.cell c.requires.flight c.requires.spot c.loop-k-test.true own (subst (λ step. IsStep flight spot c.in_ok-word.word c.loop-k.k c.loop-k.best step) w.in-Take.is c.in_ok-next.ensures.step) c.loop-k.invariant.0,
@@ -58,6 +60,7 @@ loop-k-preserved g t c =
         c.loop-k.invariant.3,
         c.loop-k.invariant.4,
         c.loop-k.invariant.5,
+        c.loop-k.invariant.6,
       )
       | in-Enter+in_ok-best-in-Enter w ↦ rw (w.nodes-is, w.reads-is, w.best-is) (
         treads_child told flight spot c.args.known c.in_ok-word.word c.loop-k.k c.args.reads.now c.loop-k.reads w.walk.new.reads c.loop-k.best w.in_ok-best-in-Enter.best w.in-Enter.child w.walk.result c.requires.flight c.requires.spot
@@ -68,6 +71,7 @@ loop-k-preserved g t c =
         omega (arith, c.loop-k.invariant.3, w.walk.ensures.later),
         omega (arith, c.loop-k.invariant.4, w.walk.ensures.looked),
         w.walk.ensures.same ∙ c.loop-k.invariant.5,
+        w.walk.ensures.lender ∙ c.loop-k.invariant.6,
       )
     ]
 

@@ -1,4 +1,4 @@
--- The height falls. On a tree the children so far were walked; and whatever the words are, the best hit is one of the grid's cells, the file is the same, and no count fell.
+-- The height falls. On a tree the children so far were walked; and whatever the words are, the best hit is one of the grid's cells, the file and its lender are the same, and no count fell.
 use Rattle.std.proofs.Common.{◌≡◌, ◌+◌, ◌^◌, ◌<◌, ◌≤◌, IfSome}
 use Rattle.ray_walk.proofs.Treading.{IsTreading, IsOwnWord}
 use Rattle.ray_walk.proofs.walking.+walk.Given as goal
@@ -14,3 +14,4 @@ invariant-loop-k g l =
     × (g.R.Records.faults l.fn.nodes ≤ g.R.Records.faults l.nodes)
     × (g.R.Records.looked l.nodes + l.fn.reads ≤ g.R.Records.looked l.fn.nodes + l.reads)
     × (g.R.Records.file l.nodes ≡ g.R.Records.file l.fn.nodes)
+    × (g.R.Records.lender l.nodes ≡ g.R.Records.lender l.fn.nodes)
