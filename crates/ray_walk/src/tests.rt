@@ -7,6 +7,7 @@ ghost use Rattle.svo_base.specs.GridShape.{IsGrid};
 use crate::{Hit, cast};
 use dev_traits::Failed;
 use morton_code::cube_of;
+use node_check::WalkFault;
 use node_file::{Records, Totals};
 use ray_fraction::{Ray, compare, entry};
 use std::alloc::{AllocError, Global};
