@@ -4,3 +4,5 @@ pub mod Files
 pub mod Walks
 pub mod Framing
 pub mod NextCells
+pub mod FoundCells
+pub mod Cursoring

@@ -97,7 +97,7 @@ module _ (format records code number word from : ℕ) where
       (passed_child words format cells height code number leads word own.own from place octant here)))
 
   -- the child that was walked to
-  below_leads : (words : List ℕ) (cells : List Cell) (height place next : ℕ) → 1 < height → place < 8 → word ≡ slice_index words number → has_child word place ≡ true → next ≡ child_number word place
+  pub below_leads : (words : List ℕ) (cells : List Cell) (height place next : ℕ) → 1 < height → place < 8 → word ≡ slice_index words number → has_child word place ≡ true → next ≡ child_number word place
       → LeadsOn words format cells height code number → (child_number word place < number) × LeadsOn words format cells (height - 1) (8 * code + place) next
   below_leads words cells zero place next high octant own bit is leads = absurd (omega (arith, high))
   below_leads words cells (suc zero) place next high octant own bit is leads = absurd (omega (arith, high))
@@ -200,7 +200,7 @@ up_from cell (suc height) child code place high there is octant =
 
 -- ---- a whole file
 
-within_top : (cell depth : ℕ) → cell / 8 ^ depth ≡ 0 → cell < 8 ^ depth
+pub within_top : (cell depth : ℕ) → cell / 8 ^ depth ≡ 0 → cell < 8 ^ depth
 within_top cell depth top = elim (cases_Bool (nat_lt cell (8 ^ depth))) [
   | inl less ↦ ltb-true cell (8 ^ depth) less
   | inr not_less ↦

@@ -1,4 +1,5 @@
 pub mod Counts
+pub mod Cursors
 pub mod Stops
 pub mod Verdicts
 pub mod Walks

@@ -5,9 +5,11 @@ ghost use Rattle.octree_specs.specs.Cells.{Cell};
 ghost use Rattle.octree_specs.specs.Formats.{StandFor};
 ghost use Rattle.node_check.specs.Counts.{HasCauseOf, LooksAsReads};
 ghost use Rattle.node_check.specs.Walks.{IsWordOf, RefusesAbove, has_child, GivesNext, GivesNextUnder, LeadsOn, passes};
+ghost use Rattle.node_check.specs.Cursors.{IsKept, IsParent};
 ghost use Rattle.node_check.specs.declared.walking.WalkFault.TheVariants.{Failed};
 
-use crate::walking::{Node, WalkFault, ancestor, child_at, has_bit, root};
+use crate::paths::Path;
+use crate::walking::{Node, WalkFault, ancestor, has_bit, root};
 use node_file::Records;
 use std::sync::ledger::Ledger;
 use svo_base::Steps;
@@ -33,13 +35,16 @@ pub fn next_cell<R: Records, L: Ledger>(
 {
     let depth = nodes.grid().depth();
     let node = root(nodes, reads)?;
-    let next = next_under(nodes, depth, &node, 0, from, reads)?;
+    let mut path = Path::at(node);
+    let next = next_under(nodes, &mut path, depth, &node, 0, from, reads)?;
     Ok(next)
 }
 
-/// The same below the node with this code, so many levels above the cells.
-fn next_under<R: Records, L: Ledger>(
+/// The same below the node with this code, so many levels above the cells, along the nodes that were
+/// entered last. The path then has the node just above the cell.
+pub fn next_under<R: Records, L: Ledger>(
     nodes: &mut R,
+    path: &mut Path,
     height: u32,
     node: &Node,
     code: u64,
@@ -50,8 +55,11 @@ fn next_under<R: Records, L: Ledger>(
     requires most { height ≤ 12 }
     requires code { code < 8 ^ (12 - height) }
     requires own { IsWordOf (R.file nodes.old).words (R.file nodes.old).totals.records node.now.number node.now.word }
+    requires kept { IsKept (R.file nodes.old).words (R.file nodes.old).totals.records path.old }
     ensures told { IfSome (R.file nodes.old).words (λ words. (cells : List Cell) → LeadsOn words (R.file nodes.old).format cells height code node.now.number → GivesNextUnder cells height code from result) }
     ensures inside { IfOk result (λ next. IfSome next (λ cell. (from ≤ cell) × (cell / 8 ^ height ≡ code))) }
+    ensures kept { IsKept (R.file nodes.old).words (R.file nodes.old).totals.records path.new }
+    ensures parent { IfOk result (λ next. IfSome next (λ cell. IsParent (R.file nodes.old).words (R.file nodes.old).totals.records (R.file nodes.old).format height code node.now.number cell path.new.parent)) }
     ensures refused { RefusesAbove (R.file nodes.old).words (R.file nodes.old).totals.records result }
     ensures looked { LooksAsReads (R.looked nodes.old) (R.looked nodes.new) reads.old reads.new }
     ensures same { R.file nodes.new ≡ R.file nodes.old }
@@ -66,10 +74,11 @@ fn next_under<R: Records, L: Ledger>(
             continue;
         }
         if below == 0 {
+            path.parent = *node;
             return Ok(Some(child));
         }
-        let next = child_at(nodes, node, place, reads)?;
-        if let Some(cell) = next_under(nodes, below, &next, child, from, reads)? {
+        let next = path.enter(nodes, node, place, below, reads)?;
+        if let Some(cell) = next_under(nodes, path, below, &next, child, from, reads)? {
             return Ok(Some(cell));
         }
     }

@@ -4,11 +4,12 @@ ghost use Rattle.std.specs.Prelude.{◌≡◌, ℕ, ◌+◌, ◌-◌, ◌*◌, �
 ghost use Rattle.octree_specs.specs.Cells.{Cell};
 ghost use Rattle.octree_specs.specs.Formats.{StandFor};
 ghost use Rattle.node_check.specs.Counts.{HasCauseOf, LooksAsReads};
-ghost use Rattle.node_check.specs.Walks.{face_at, keeps_face, Gives, RefusesAbove, RefusesNoCell};
+ghost use Rattle.node_check.specs.Walks.{face_at, keeps_face, has_child, led_to, IsWordOf, LeadsOn, Gives, RefusesAbove, RefusesNoCell};
+ghost use Rattle.node_check.specs.Cursors.{GivesFace};
 ghost use Rattle.node_check.specs.declared.walking.WalkFault.TheVariants.{Failed};
 
 use crate::checking::is_face;
-use crate::walking::{WalkFault, child_at, has_bit, walk_to};
+use crate::walking::{Node, WalkFault, child_at, has_bit, walk_to};
 use node_file::Records;
 use std::sync::ledger::Ledger;
 use svo_base::Steps;
@@ -75,6 +76,38 @@ pub fn face_of<R: Records, L: Ledger>(
     let cell = child_at(nodes, &node, code % 8, reads)?;
     match face_in(cell.word) {
         Some(face) => Ok(Some(face)),
+        None => Err(WalkFault::Refused {
+            number: cell.number,
+            word: cell.word,
+        }),
+    }
+}
+
+/// The face of a cell that the node just above it has.
+pub fn cell_face<R: Records, L: Ledger>(
+    nodes: &mut R,
+    node: &Node,
+    code: u64,
+    reads: &mut Steps<L>,
+) -> Result<u32, WalkFault>
+    requires own { IsWordOf (R.file nodes.old).words (R.file nodes.old).totals.records node.now.number node.now.word }
+    requires bit { has_child node.now.word (code % 8) ≡ true }
+    requires leads { IfSome (R.file nodes.old).words (λ words. (cells : List Cell) → StandFor (R.file nodes.old).format (R.file nodes.old).grid.depth words cells → LeadsOn words (R.file nodes.old).format cells 1 (code / 8) node.now.number) }
+    requires led { IfSome (R.file nodes.old).words (λ words. led_to words (R.file nodes.old).grid.depth code ((R.file nodes.old).totals.records - 1) ≡ led_to words 1 code node.now.number) }
+    ensures told { IfSome (R.file nodes.old).words (λ words. (cells : List Cell) → StandFor (R.file nodes.old).format (R.file nodes.old).grid.depth words cells → GivesFace cells code result) }
+    ensures small { IfOk result (λ face. face ≤ 4294967294) }
+    ensures refused { RefusesNoCell (R.file nodes.old).words (R.file nodes.old).totals.records (R.file nodes.old).grid.depth code result }
+    ensures looked { LooksAsReads (R.looked nodes.old) (R.looked nodes.new) reads.old reads.new }
+    ensures same { R.file nodes.new ≡ R.file nodes.old }
+    ensures lender { R.lender nodes.new ≡ R.lender nodes.old }
+    ensures cause { HasCauseOf (R.faults nodes.old) (R.faults nodes.new) result Failed }
+{
+    if nodes.format() == 1 {
+        return Ok(0);
+    }
+    let cell = child_at(nodes, node, code % 8, reads)?;
+    match face_in(cell.word) {
+        Some(face) => Ok(face),
         None => Err(WalkFault::Refused {
             number: cell.number,
             word: cell.word,

@@ -89,7 +89,7 @@ pub fn child_at<R: Records, L: Ledger>(
 }
 
 /// The number of the word of the child at a place.
-fn number_of_child(word: u64, place: u64) -> u64
+pub fn number_of_child(word: u64, place: u64) -> u64
     requires { place < 8 }
     ensures { result ≡ child_number word place }
 {

@@ -22,7 +22,7 @@ pub fn copy_in(block: &mut [u8], used: usize, piece: &[u8]) -> usize
 }
 
 /// Puts the bytes that wait.
-fn put_front<O: ByteSink>(sink: &mut O, block: &mut [u8], used: usize) -> Result<(), Failed>
+pub fn put_front<O: ByteSink>(sink: &mut O, block: &mut [u8], used: usize) -> Result<(), Failed>
     requires { used ≤ length block.old }
     ensures written { OnOk result (O.written sink.new ≡ given_by (O.written sink.old) block.old used) }
     ensures cut { OnErr result (GrewByFront (O.written sink.old) (O.written sink.new) (take used block.old)) }

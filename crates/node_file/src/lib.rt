@@ -9,6 +9,7 @@ mod records;
 mod stored;
 mod writer;
 
+pub use blocks::{append, put_front};
 pub use framing::{read_format, read_header, read_trailer};
 pub use layout::{header_bytes, trailer_bytes};
 pub use loading::{Frame, LoadFault};

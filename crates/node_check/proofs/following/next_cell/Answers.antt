@@ -5,6 +5,7 @@ use Rattle.svo_base.specs.GridShape.{GridShape}
 use Rattle.octree_specs.specs.Cells.{Cell}
 use Rattle.octree_specs.specs.Formats.{StandFor}
 use Rattle.node_file.specs.FileView.{FileView}
+use Rattle.node_check.specs.Cursors.{IsKept}
 use Rattle.node_check.specs.Walks.{GivesNext}
 use Rattle.node_check.proofs.NextCells.{Unders, power_some, next_inside, next_told}
 use Rattle.node_check.proofs.Walks.{root_leads, err_is}
@@ -37,3 +38,8 @@ returns-clause-inside g c =
     let deep : c.depth-depth.result ≡ (g.R.Records.file c.args.nodes.now).grid.depth = c.depth-depth.ensures.value ∙ ap (λ (s : GridShape). s.depth) c.grid.ensures.value in
     next_inside c.args.from (g.R.Records.file c.args.nodes.now).grid.depth c.in_ok-next.next
     (subst (λ d. IfSome c.in_ok-next.next (λ cell. (c.args.from ≤ cell) × (cell / 8 ^ d ≡ 0))) deep c.in_ok-next.ensures.inside)
+
+pub next_under-requires-clause-kept : goal.next_under-requires-clause-kept
+next_under-requires-clause-kept g c =
+    subst (λ (f : FileView). IsKept f.words f.totals.records c.at-path.result) (sym c.in_ok-node.ensures.same)
+    (c.at-path.ensures (g.R.Records.file c.args.nodes.now).words (g.R.Records.file c.args.nodes.now).totals.records c.in_ok-node.ensures.word)

@@ -1,0 +1,3 @@
+pub mod Befores
+pub mod Listed
+pub mod Lifts
