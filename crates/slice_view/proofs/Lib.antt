@@ -1,0 +1,14 @@
+pub mod CameraLimits
+pub mod StillRays
+pub mod ViewGreys
+pub mod ViewPuts
+pub mod Places
+pub mod ChildSquares
+pub mod Painted
+pub mod Walked
+pub mod Rows
+pub mod BandRows
+pub mod PutBands
+pub mod OneBand
+pub mod WholeSlices
+pub mod Stopping

@@ -1,0 +1,25 @@
+//! Pictures of the filled cells of a node file: slices across an axis, and views from a camera.
+#![tactic(auto)]
+
+mod axes;
+mod bands;
+mod cameras;
+mod headers;
+mod laws;
+mod painting;
+mod pixels;
+mod slicing;
+mod squares;
+mod viewing;
+
+pub use axes::Axis;
+pub use cameras::{Camera, CameraKind};
+pub use laws::pixels_refuse_only_still_rays;
+pub use node_check::AnswerStop;
+pub use slicing::slice;
+pub use viewing::view;
+
+#[cfg(test)]
+mod tests;
+#[cfg(test)]
+mod view_tests;
