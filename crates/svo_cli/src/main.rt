@@ -1,7 +1,8 @@
-//! The program: `run` over the standard streams, with a folder for what a build keeps aside.
+//! The program: `run` over the standard streams, with a folder for what a build keeps aside, and node
+//! files by their names.
 #![tactic(auto)]
 
-use host_files::{FolderScratch, HostErrors, HostInput, HostOutput};
+use host_files::{FileStore, FolderScratch, HostErrors, HostInput, HostOutput};
 use std::process::ExitCode;
 use std::rt::Env;
 use std::{env, io};
@@ -12,7 +13,8 @@ use svo_top::{Status, run};
 const NO_WORDS: u8 = 8;
 
 /// Runs the words after the program's name over the standard streams, and ends with the status's code.
-/// A build keeps its scratch in the folder that its words name, from the caller's folder on.
+/// A build keeps its scratch in the folder that its words name, and node files are opened by their
+/// names, each from the caller's folder on.
 fn main(rt: HostRuntime) -> ExitCode {
     let words = match host_words(&rt) {
         Err(error) => return ExitCode::from(words_code(&error)),
@@ -22,6 +24,7 @@ fn main(rt: HostRuntime) -> ExitCode {
     let mut out = HostOutput::new(rt.stdout());
     let mut err = HostErrors::new(rt.stderr());
     let mut scratch = FolderScratch::new(&rt);
+    let mut nodes = FileStore::new(&rt);
     let status = run(
         rt.alloc(),
         &words,
@@ -29,6 +32,7 @@ fn main(rt: HostRuntime) -> ExitCode {
         &mut out,
         &mut err,
         &mut scratch,
+        &mut nodes,
     );
     ExitCode::from(status.code())
 }

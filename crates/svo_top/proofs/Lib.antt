@@ -2,3 +2,8 @@ pub mod BuildEndings
 pub mod Puts
 pub mod WordCauses
 pub mod WorkedWords
+pub mod MadeBlocks
+pub mod MadeSums
+pub mod Asked
+pub mod Named
+pub mod MadeStops

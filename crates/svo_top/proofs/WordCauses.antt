@@ -1,31 +1,41 @@
 -- From what the words mean to what a run does.
-use Rattle.std.proofs.Common.{◌≡◌, ◌⊎◌, ℕ, List, [], Some, Result, Ok, Err, inl, inr, refl, sym, ap, ◌∙◌, subst}
-use Rattle.dev_traits.specs.Change.{Change, ScratchChange, IsKept, IsScratchKept}
+use Rattle.std.proofs.Common.{◌≡◌, ◌≢◌, ◌⊎◌, ℕ, List, [], Option, None, Some, Result, Ok, Err, inl, inr, refl, sym, ap, ◌∙◌, subst}
+use Rattle.dev_traits.specs.Change.{Change, ScratchChange, StoreChange, IsKept, IsScratchKept}
 use Rattle.svo_words.specs.Forms.{form_of}
 use Rattle.svo_words.specs.Meaning.{Means}
 use Rattle.svo_words.specs.Reading.{IsRead}
 use Rattle.svo_words.specs.declared.build.BuildWords.{BuildWords}
 use Rattle.svo_words.specs.declared.why.WhyWords.{WhyWords}
 use Rattle.svo_words.specs.declared.commands.Command.{Command}
-use Rattle.svo_words.specs.declared.commands.Command.TheVariants.{Build, Why}
+use Rattle.svo_words.specs.declared.commands.Command.TheVariants.{Build, Why, Check, Has, Cells, Lift, Cast, Slice, View, Make, Sum}
 use Rattle.svo_words.specs.declared.commands.WordFault.{WordFault}
 use Rattle.svo_words.specs.declared.commands.WordFault.TheVariants as word
 use Rattle.svo_words.proofs.Meanings.{one_meaning_is}
-use Rattle.svo_top.specs.Build.{BuildRun, Finished}
-use Rattle.svo_top.specs.Lines.{Says}
-use Rattle.svo_top.specs.Causes.{UsageCauses, RangeCauses, KeepsInput, KeepsOutput, KeepsScratch}
-use Rattle.svo_top.specs.Endings.{status_of, line_of, EndsBuild, EndsWhy}
-use Rattle.svo_top.specs.Obeying.{Obeys, Stops}
+use Rattle.svo_top.specs.Asking.{Asks, AsksBytes, EndsAtOnce}
+use Rattle.svo_top.specs.Build.{BuildRun, Finished, IsUntouched}
+use Rattle.svo_top.specs.Commands.{MayBeLate, NamesNodes, ReadsInput}
+use Rattle.svo_top.specs.Doing.{Does, QuestionRun}
+use Rattle.svo_top.specs.Lines.{Says, stop_line}
+use Rattle.svo_top.specs.Causes.{UsageCauses, RangeCauses, RefusalCauses, KeepsDevices}
+use Rattle.svo_top.specs.Endings.{status_of, line_of, EndsBuild, EndsWhy, EndsQuietly}
+use Rattle.svo_top.specs.NodeFiles.{Tells}
+use Rattle.svo_top.specs.Obeying.{Obeys, ObeysQuestion, Stops}
 use Rattle.svo_top.specs.Ranges.{range_of}
 use Rattle.svo_top.specs.Usage.{fault_of, status_of_fault}
 use Rattle.svo_top.specs.Why.{WhyRun}
+use Rattle.svo_top.specs.declared.asking.Question.{Question}
 use Rattle.svo_top.specs.declared.outcome.Status.{Status}
-use Rattle.svo_top.specs.declared.outcome.Status.TheVariants.{Done, Usage, Input, Range, Device, Memory}
+use Rattle.svo_top.specs.declared.outcome.Status.TheVariants.{Done, Usage, Input, Range, Device, Refused, Memory}
 use Rattle.svo_top.specs.declared.outcome.UsageKind.{UsageKind}
 use Rattle.svo_top.specs.declared.outcome.UsageKind.TheVariants as usage_kind
+use Rattle.svo_top.specs.declared.outcome.InputKind.{InputKind}
 use Rattle.svo_top.specs.declared.outcome.RangeFault.{RangeFault}
+use Rattle.svo_top.specs.declared.outcome.NodeRefusal.{NodeRefusal}
 use Rattle.svo_top.specs.declared.reporting.Ending.{Ending}
 use Rattle.svo_top.specs.declared.reporting.Ending.TheVariants.{Built as EndsBuilt, Answered, Stopped}
+use Rattle.svo_top.proofs.Asked.{works_memory}
+use Rattle.svo_top.proofs.Named.{reads_kept}
+use Rattle.svo_top.proofs.MadeStops.{sum_line_none}
 
 -- ---- the words could not be read
 
@@ -38,8 +48,33 @@ fault_back (Err word.Value) fault (inl e) rest = sym e
 fault_back (Err word.Value) fault (inr e) rest = absurd (rest cc)
 fault_back (Err word.Memory) fault e rest = absurd (rest cc)
 
-without_memory : (input out : Change) (scratch : ScratchChange) → IsKept input → IsKept out → IsScratchKept scratch → (command : Command) → Obeys command input out scratch (Stopped Memory)
-without_memory input out scratch kept_input kept_out kept_scratch (Build job) = (
+-- a question that was not asked for want of memory
+asks_memory : (question : Question) (name : List ℕ) (input out : Change) (nodes : StoreChange) → IsKept input → IsKept out → Asks question name input out nodes Memory
+asks_memory question name input out nodes kept_input kept_out = record {
+  told = λ bytes tells. record {
+    refused = λ refusal e. absurd cc;
+    refuses = λ refusal is. at_once (Refused refusal);
+    barred = λ fault needs e. absurd cc;
+    bars = λ format grid cells fault keeps is. at_once (Range fault);
+    works = λ format grid cells keeps free. works_memory out nodes.faults_before nodes.faults_after kept_out question format grid cells input kept_input;
+  };
+  ends = record {
+    may = tt;
+    reads = reads_kept question input Memory kept_input (λ text end. tt);
+    read = λ e. absurd cc;
+    written = λ e. absurd cc;
+    looked = λ e. absurd cc;
+    memory = λ e. (kept_input, kept_out);
+    barred = λ fault needs e. absurd cc;
+  };
+}
+  where
+    at_once : (wanted : Status) → EndsAtOnce wanted input out nodes.faults_before nodes.faults_after Memory
+    at_once wanted = record { unread = kept_input; unwritten = kept_out; is = λ quiet. inr refl }
+
+without_memory : (input out : Change) (scratch : ScratchChange) (nodes : StoreChange) → IsKept input → IsKept out → IsScratchKept scratch → IsKept nodes → (command : Command)
+    → Obeys command input out scratch nodes (Stopped Memory)
+without_memory input out scratch nodes kept_input kept_out kept_scratch kept_nodes (Build job) = (
   tt,
   record {
     untouched = λ f e. (kept_input, kept_out, kept_scratch);
@@ -52,12 +87,42 @@ without_memory input out scratch kept_input kept_out kept_scratch (Build job) = 
     accepts = λ text one mesh a b c d e f. inr refl;
     rejects = λ text one ply place a b c d e. inr refl;
   },
+  kept_nodes,
 )
-without_memory input out scratch kept_input kept_out kept_scratch (Why question) = (
+without_memory input out scratch nodes kept_input kept_out kept_scratch kept_nodes (Why words) = (
   tt,
   record { done = λ e. absurd cc; cut_off = λ e. absurd cc; kept = λ a b. kept_out; answers = λ a b. inr refl },
   kept_input,
   kept_scratch,
+  kept_nodes,
+)
+without_memory input out scratch nodes kept_input kept_out kept_scratch kept_nodes (Check words) = (record { quiet = tt; asks = λ e. asks_memory _ words.nodes input out nodes kept_input kept_out }, kept_scratch)
+without_memory input out scratch nodes kept_input kept_out kept_scratch kept_nodes (Has words) = (record { quiet = tt; asks = λ e. asks_memory _ words.nodes input out nodes kept_input kept_out }, kept_scratch)
+without_memory input out scratch nodes kept_input kept_out kept_scratch kept_nodes (Cells words) = (record { quiet = tt; asks = λ e. asks_memory _ words.nodes input out nodes kept_input kept_out }, kept_scratch)
+without_memory input out scratch nodes kept_input kept_out kept_scratch kept_nodes (Lift words) = (record { quiet = tt; asks = λ e. asks_memory _ words.nodes input out nodes kept_input kept_out }, kept_scratch)
+without_memory input out scratch nodes kept_input kept_out kept_scratch kept_nodes (Cast words) = (record { quiet = tt; asks = λ e. asks_memory _ words.nodes input out nodes kept_input kept_out }, kept_scratch)
+without_memory input out scratch nodes kept_input kept_out kept_scratch kept_nodes (Slice words) = (record { quiet = tt; asks = λ e. asks_memory _ words.nodes input out nodes kept_input kept_out }, kept_scratch)
+without_memory input out scratch nodes kept_input kept_out kept_scratch kept_nodes (View words) = (record { quiet = tt; asks = λ camera e. asks_memory _ words.nodes input out nodes kept_input kept_out }, kept_scratch)
+without_memory input out scratch nodes kept_input kept_out kept_scratch kept_nodes (Make words) = (
+  tt,
+  record { done = λ e. absurd cc; cut_off = λ e. absurd cc; kept = λ a b. kept_out; makes = λ a b. inr refl },
+  kept_input,
+  kept_scratch,
+  kept_nodes,
+)
+without_memory input out scratch nodes kept_input kept_out kept_scratch kept_nodes (Sum words) = (
+  tt,
+  record {
+    done = λ e. absurd cc;
+    cut_off = λ e. absurd cc;
+    kept = λ a b. kept_out;
+    unspilled = λ f e. kept_scratch;
+    memory = λ e. kept_scratch;
+    asked = inl kept_scratch.1;
+    sums = λ a b c. inr refl;
+  },
+  kept_input,
+  kept_nodes,
 )
 
 module _ (words : List (List ℕ)) (fault : WordFault) (read : IsRead (form_of words) (Err fault)) where
@@ -111,11 +176,26 @@ module _ (words : List (List ℕ)) (fault : WordFault) (read : IsRead (form_of w
       go word.Value f e = cc
       go word.Memory f e = cc
 
-  pub obeys_of_fault : (input out : Change) (scratch : ScratchChange) → IsKept input → IsKept out → IsScratchKept scratch → (command : Command) → Means words (Ok command)
-      → Obeys command input out scratch (Stopped (status_of_fault fault))
-  obeys_of_fault input out scratch kept_input kept_out kept_scratch command means =
-      let P : WordFault → Type 0 = λ f. Obeys command input out scratch (Stopped (status_of_fault f)) in
-      subst P (sym (memory_from command means)) (without_memory input out scratch kept_input kept_out kept_scratch command)
+  pub refusal_of_fault : RefusalCauses words (status_of_fault fault)
+  refusal_of_fault = record { input = λ kind place e. absurd (no_input fault kind place e); nodes = λ refusal e. absurd (no_refusal fault refusal e) }
+    where
+      no_input : (one : WordFault) (kind : InputKind) (place : ℕ) → status_of_fault one ≡ Input kind place → ⊥
+      no_input word.Command kind place e = cc
+      no_input word.Options kind place e = cc
+      no_input word.Value kind place e = cc
+      no_input word.Memory kind place e = cc
+
+      no_refusal : (one : WordFault) (refusal : NodeRefusal) → status_of_fault one ≡ Refused refusal → ⊥
+      no_refusal word.Command refusal e = cc
+      no_refusal word.Options refusal e = cc
+      no_refusal word.Value refusal e = cc
+      no_refusal word.Memory refusal e = cc
+
+  pub obeys_of_fault : (input out : Change) (scratch : ScratchChange) (nodes : StoreChange) → IsKept input → IsKept out → IsScratchKept scratch → IsKept nodes → (command : Command) → Means words (Ok command)
+      → Obeys command input out scratch nodes (Stopped (status_of_fault fault))
+  obeys_of_fault input out scratch nodes kept_input kept_out kept_scratch kept_nodes command means =
+      let P : WordFault → Type 0 = λ f. Obeys command input out scratch nodes (Stopped (status_of_fault f)) in
+      subst P (sym (memory_from command means)) (without_memory input out scratch nodes kept_input kept_out kept_scratch kept_nodes command)
 
 -- ---- the words are a command
 
@@ -144,10 +224,11 @@ module _ (words : List (List ℕ)) (command : Command) (read : IsRead (form_of w
       let both : ◌≡◌ {A = Result Command WordFault} (Ok command) (Ok one) = sym is_command ∙ other in
       cc
 
-  pub obeys_of : (input out : Change) (scratch : ScratchChange) (ending : Ending) → Obeys command input out scratch ending → (one : Command) → Means words (Ok one) → Obeys one input out scratch ending
-  obeys_of input out scratch ending obeys one means = let P : Command → Type 0 = λ c. Obeys c input out scratch ending in subst P (same_command one means) obeys
+  pub obeys_of : (input out : Change) (scratch : ScratchChange) (nodes : StoreChange) (ending : Ending) → Obeys command input out scratch nodes ending → (one : Command) → Means words (Ok one)
+      → Obeys one input out scratch nodes ending
+  obeys_of input out scratch nodes ending obeys one means = let P : Command → Type 0 = λ c. Obeys c input out scratch nodes ending in subst P (same_command one means) obeys
 
-  module _ (input out : Change) (scratch : ScratchChange) (status : Status) (stops : Stops (range_of command) input out scratch status) where
+  module _ (input out : Change) (scratch : ScratchChange) (nodes : StoreChange) (status : Status) (stops : Stops command input out scratch nodes status) where
     pub usage_of : UsageCauses words status
     usage_of = record {
       command = λ means. absurd (no_fault word.Command means);
@@ -159,31 +240,26 @@ module _ (words : List (List ℕ)) (command : Command) (read : IsRead (form_of w
     named : (one : Command) (fault : RangeFault) → Means words (Ok one) → range_of one ≡ Some fault → range_of command ≡ Some fault
     named one fault means is = ap range_of (same_command one means) ∙ is
 
+    meant : Means words (Ok command)
+    meant = (one_meaning_is words (Ok command)).0 is_command
+
     pub range_causes : RangeCauses words status
     range_causes = record {
-      comes = λ one fault means is. inl (stops.range.comes fault (named one fault means is));
-      only = λ fault e. (command, (one_meaning_is words (Ok command)).0 is_command, stops.range.only fault e);
+      comes = λ one fault means is. inl (stops.comes fault (named one fault means is));
+      only = λ fault e. (command, meant, stops.only fault e);
     }
 
-    pub input_kept : KeepsInput words input status
-    input_kept = record {
-      usage = λ fault means. absurd (no_fault fault means);
-      range = λ one fault means is. (stops.unmoved fault (named one fault means is)).0;
-      memory = λ e. (stops.memory e).0;
+    pub refusal_causes : RefusalCauses words status
+    refusal_causes = record {
+      input = λ kind place e. (command, meant, stops.reads kind place e);
+      nodes = λ refusal e. (command, meant, stops.refused refusal e);
     }
 
-    pub output_kept : KeepsOutput words out status
-    output_kept = record {
+    pub devices_kept : KeepsDevices words input out scratch nodes status
+    devices_kept = record {
       usage = λ fault means. absurd (no_fault fault means);
-      range = λ one fault means is. (stops.unmoved fault (named one fault means is)).1;
-      memory = λ e. (stops.memory e).1;
-    }
-
-    pub scratch_kept : KeepsScratch words scratch status
-    scratch_kept = record {
-      usage = λ fault means. absurd (no_fault fault means);
-      range = λ one fault means is. (stops.unmoved fault (named one fault means is)).2;
-      memory = λ e. (stops.memory e).2;
+      range = λ one fault means is. stops.unmoved fault (named one fault means is);
+      memory = stops.memory;
     }
 
 -- ---- a whole run
@@ -197,13 +273,12 @@ finished_by words input out scratch err (Stopped (Usage one)) ends says e = absu
 finished_by words input out scratch err (Stopped (Input one place)) ends says e = absurd cc
 finished_by words input out scratch err (Stopped (Range one)) ends says e = absurd cc
 finished_by words input out scratch err (Stopped (Device one)) ends says e = absurd cc
+finished_by words input out scratch err (Stopped (Refused one)) ends says e = absurd cc
 finished_by words input out scratch err (Stopped Memory) ends says e = absurd cc
 
-pub run_of_build : (words : BuildWords) (input out : Change) (scratch : ScratchChange) (err : Change) (ending : Ending) (status : Status) → status ≡ status_of ending
-    → Obeys (Build words) input out scratch ending → Says err (line_of ending) → BuildRun words input out scratch err status
-run_of_build words input out scratch err ending status is obeys says =
-    let P : Status → Type 0 = λ s. BuildRun words input out scratch err s in
-    subst P (sym is) (record { finished = finished_by words input out scratch err ending obeys.0 says; means = obeys.1 })
+run_of_build : (words : BuildWords) (input out : Change) (scratch : ScratchChange) (nodes : StoreChange) (err : Change) (ending : Ending)
+    → Obeys (Build words) input out scratch nodes ending → Says err (line_of ending) → BuildRun words input out scratch err (status_of ending)
+run_of_build words input out scratch nodes err ending obeys says = record { finished = finished_by words input out scratch err ending obeys.0 says; means = obeys.1 }
 
 no_line : (ending : Ending) → EndsWhy ending → status_of ending ≡ Done → line_of ending ≡ []
 no_line (EndsBuilt counts) ends e = absurd ends
@@ -213,10 +288,45 @@ no_line (Stopped (Usage kind)) ends e = absurd ends
 no_line (Stopped (Input kind place)) ends e = absurd ends
 no_line (Stopped (Range fault)) ends e = absurd cc
 no_line (Stopped (Device one)) ends e = absurd cc
+no_line (Stopped (Refused one)) ends e = absurd cc
 no_line (Stopped Memory) ends e = absurd cc
 
-pub run_of_why : (question : WhyWords) (input out : Change) (scratch : ScratchChange) (err : Change) (ending : Ending) (status : Status) → status ≡ status_of ending
-    → Obeys (Why question) input out scratch ending → (line_of ending ≡ [] → IsKept err) → WhyRun question input out scratch err status
-run_of_why question input out scratch err ending status is obeys silent =
-    let P : Status → Type 0 = λ s. WhyRun question input out scratch err s in
-    subst P (sym is) (record { means = obeys.1; unread = obeys.2; unspilled = obeys.3; silent = λ e. silent (no_line ending obeys.0 e) })
+quiet_line : (ending : Ending) → EndsQuietly ending → status_of ending ≡ Done → line_of ending ≡ []
+unfolding stop_line
+quiet_line (EndsBuilt counts) ends e = absurd ends
+quiet_line Answered ends e = refl
+quiet_line (Stopped Done) ends e = refl
+quiet_line (Stopped (Usage kind)) ends e = absurd cc
+quiet_line (Stopped (Input kind place)) ends e = absurd cc
+quiet_line (Stopped (Range fault)) ends e = absurd cc
+quiet_line (Stopped (Device one)) ends e = absurd cc
+quiet_line (Stopped (Refused one)) ends e = absurd cc
+quiet_line (Stopped Memory) ends e = absurd cc
+
+run_of_why : (words : WhyWords) (input out : Change) (scratch : ScratchChange) (nodes : StoreChange) (err : Change) (ending : Ending)
+    → Obeys (Why words) input out scratch nodes ending → (line_of ending ≡ [] → IsKept err) → WhyRun words input out scratch err (status_of ending)
+run_of_why words input out scratch nodes err ending obeys silent =
+    record { means = obeys.1; unread = obeys.2; unspilled = obeys.3; silent = λ e. silent (no_line ending obeys.0 e) }
+
+run_of_question : (question : Question) (name : List ℕ) (range : Option RangeFault) (input out : Change) (scratch : ScratchChange) (nodes : StoreChange) (err : Change) (ending : Ending)
+    → ObeysQuestion question name range input out nodes ending → IsScratchKept scratch → (line_of ending ≡ [] → IsKept err)
+    → QuestionRun question name range input out scratch nodes err (status_of ending)
+run_of_question question name range input out scratch nodes err ending obeys kept silent =
+    record { asks = obeys.asks; unspilled = kept; silent = λ e. silent (quiet_line ending obeys.quiet e) }
+
+module _ (input out : Change) (scratch : ScratchChange) (nodes : StoreChange) (err : Change) (ending : Ending) (says : Says err (line_of ending)) (silent : line_of ending ≡ [] → IsKept err) where
+  does_it : (command : Command) → Obeys command input out scratch nodes ending → Does command input out scratch nodes err (status_of ending)
+  does_it (Build words) obeys = (run_of_build words input out scratch nodes err ending obeys says, obeys.2)
+  does_it (Why words) obeys = (run_of_why words input out scratch nodes err ending obeys silent, obeys.4)
+  does_it (Check words) obeys = run_of_question _ words.nodes None input out scratch nodes err ending obeys.0 obeys.1 silent
+  does_it (Has words) obeys = run_of_question _ words.nodes None input out scratch nodes err ending obeys.0 obeys.1 silent
+  does_it (Cells words) obeys = run_of_question _ words.nodes _ input out scratch nodes err ending obeys.0 obeys.1 silent
+  does_it (Lift words) obeys = run_of_question _ words.nodes None input out scratch nodes err ending obeys.0 obeys.1 silent
+  does_it (Cast words) obeys = run_of_question _ words.nodes _ input out scratch nodes err ending obeys.0 obeys.1 silent
+  does_it (Slice words) obeys = run_of_question _ words.nodes _ input out scratch nodes err ending obeys.0 obeys.1 silent
+  does_it (View words) obeys = record { asks = obeys.0.asks; unspilled = obeys.1; silent = λ e. silent (quiet_line ending obeys.0.quiet e) }
+  does_it (Make words) obeys = (record { means = obeys.1; unread = obeys.2; unspilled = obeys.3; silent = λ e. silent (no_line ending obeys.0 e) }, obeys.4)
+  does_it (Sum words) obeys = (record { means = obeys.1; unread = obeys.2; silent = λ e. silent (sum_line_none ending obeys.0 e) }, obeys.3)
+
+  pub does : (status : Status) → status ≡ status_of ending → (command : Command) → Obeys command input out scratch nodes ending → Does command input out scratch nodes err status
+  does status is command obeys = let P : Status → Type 0 = λ s. Does command input out scratch nodes err s in subst P (sym is) (does_it command obeys)

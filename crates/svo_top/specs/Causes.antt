@@ -1,16 +1,20 @@
 -- Why a run stops before its work is done, and what it then leaves as it was.
 use Rattle.std.specs.Prelude.{◌≡◌, ◌≢◌, ◌⊎◌, List, ℕ, Some, Ok, Err}
-use Rattle.dev_traits.specs.Change.{Change, ChangeOf, ScratchChange, IsFaulted, IsKept, IsScratchKept}
+use Rattle.dev_traits.specs.Change.{Change, ChangeOf, ScratchChange, StoreChange, IsFaulted, IsKept}
 use Rattle.svo_words.specs.Meaning.{Means}
 use Rattle.svo_words.specs.declared.commands.Command.{Command}
 use Rattle.svo_words.specs.declared.commands.WordFault.{WordFault}
+use Rattle.svo_top.specs.Build.{IsUntouched}
+use Rattle.svo_top.specs.Commands.{MayBeLate, NamesNodes, ReadsInput}
 use Rattle.svo_top.specs.Ranges.{range_of}
 use Rattle.svo_top.specs.Lines.{Says, stop_line}
 use Rattle.svo_top.specs.Usage.{fault_of}
 use Rattle.svo_top.specs.declared.outcome.Status.{Status}
-use Rattle.svo_top.specs.declared.outcome.Status.TheVariants.{Done, Usage, Range, Device, Memory}
+use Rattle.svo_top.specs.declared.outcome.Status.TheVariants.{Done, Usage, Input, Range, Device, Refused, Memory}
 use Rattle.svo_top.specs.declared.outcome.UsageKind.{UsageKind}
 use Rattle.svo_top.specs.declared.outcome.UsageKind.TheVariants.{Command as NoCommand, Options as NoOptions, Value as NoValue}
+use Rattle.svo_top.specs.declared.outcome.InputKind.{InputKind}
+use Rattle.svo_top.specs.declared.outcome.NodeRefusal.{NodeRefusal}
 use Rattle.svo_top.specs.declared.outcome.RangeFault.{RangeFault}
 use Rattle.svo_top.specs.declared.outcome.Device.{Device as DeviceName}
 
@@ -21,33 +25,26 @@ pub record UsageCauses (words : List (List ℕ)) (status : Status) : Type 0 wher
   pub value : Means words (Err (fault_of NoValue)) → (status ≡ Usage NoValue) ⊎ (status ≡ Memory)
   pub only : (kind : UsageKind) → status ≡ Usage kind → Means words (Err (fault_of kind))
 
--- a range fault comes exactly where a number of the command is out of a range, and is the first, unless memory runs out
+-- a range fault that needs no node file and no ray comes exactly where a number of the command is out of that range, and is the first, unless memory runs out
 pub record RangeCauses (words : List (List ℕ)) (status : Status) : Type 0 where
   pub comes : (command : Command) (fault : RangeFault) → Means words (Ok command) → range_of command ≡ Some fault
       → (status ≡ Range fault) ⊎ (status ≡ Memory)
-  pub only : (fault : RangeFault) → status ≡ Range fault → (command : Command) × Means words (Ok command) × (range_of command ≡ Some fault)
+  pub only : (fault : RangeFault) → status ≡ Range fault → (command : Command) × Means words (Ok command) × ((range_of command ≡ Some fault) ⊎ MayBeLate command fault)
+
+-- an input is refused by commands that read it alone, and a node file by those that name one
+pub record RefusalCauses (words : List (List ℕ)) (status : Status) : Type 0 where
+  pub input : (kind : InputKind) (place : ℕ) → status ≡ Input kind place → (command : Command) × Means words (Ok command) × ReadsInput command
+  pub nodes : (refusal : NodeRefusal) → status ≡ Refused refusal → (command : Command) × Means words (Ok command) × NamesNodes command
 
 -- a device is named only where its count of faults rose in this run
 abbrev pub DeviceCause : {Told : Type 0} → DeviceName → ChangeOf Told → Status → Type 0
 DeviceCause device change status = status ≡ Device device → IsFaulted change
 
--- where the words are no command line, a number is out of a range, or memory runs out, nothing is read
-pub record KeepsInput (words : List (List ℕ)) (input : Change) (status : Status) : Type 0 where
-  pub usage : (fault : WordFault) → Means words (Err fault) → IsKept input
-  pub range : (command : Command) (fault : RangeFault) → Means words (Ok command) → range_of command ≡ Some fault → IsKept input
-  pub memory : status ≡ Memory → IsKept input
-
--- nor is anything put out
-pub record KeepsOutput (words : List (List ℕ)) (out : Change) (status : Status) : Type 0 where
-  pub usage : (fault : WordFault) → Means words (Err fault) → IsKept out
-  pub range : (command : Command) (fault : RangeFault) → Means words (Ok command) → range_of command ≡ Some fault → IsKept out
-  pub memory : status ≡ Memory → IsKept out
-
--- nor is the scratch touched
-pub record KeepsScratch (words : List (List ℕ)) (scratch : ScratchChange) (status : Status) : Type 0 where
-  pub usage : (fault : WordFault) → Means words (Err fault) → IsScratchKept scratch
-  pub range : (command : Command) (fault : RangeFault) → Means words (Ok command) → range_of command ≡ Some fault → IsScratchKept scratch
-  pub memory : status ≡ Memory → IsScratchKept scratch
+-- where the words are no command line, or a number is out of a range that needs no file, no device is touched; where memory runs out, nothing is read, put out or kept on scratch
+pub record KeepsDevices (words : List (List ℕ)) (input out : Change) (scratch : ScratchChange) (nodes : StoreChange) (status : Status) : Type 0 where
+  pub usage : (fault : WordFault) → Means words (Err fault) → IsUntouched input out scratch × IsKept nodes
+  pub range : (command : Command) (fault : RangeFault) → Means words (Ok command) → range_of command ≡ Some fault → IsUntouched input out scratch × IsKept nodes
+  pub memory : status ≡ Memory → IsUntouched input out scratch
 
 -- a run that stops says why, in one line
 abbrev pub SaysWhy : Change → Status → Type 0

@@ -8,9 +8,9 @@ use Rattle.build_core.specs.declared.faults.BuildFault.TheVariants as fault
 use Rattle.svo_top.specs.Lines.{stop_line, built_line}
 use Rattle.svo_words.specs.declared.build.BuildWords.{BuildWords}
 use Rattle.svo_top.specs.declared.outcome.Status.{Status}
-use Rattle.svo_top.specs.declared.outcome.Status.TheVariants.{Done, Usage, Input, Range, Device, Memory}
+use Rattle.svo_top.specs.declared.outcome.Status.TheVariants.{Done, Usage, Input, Range, Device, Refused, Memory}
 use Rattle.svo_top.specs.declared.outcome.InputKind.TheVariants.{Ply}
-use Rattle.svo_top.specs.declared.outcome.Device.TheVariants.{Read, Scratch, Write}
+use Rattle.svo_top.specs.declared.outcome.Device.TheVariants.{Read, Scratch, Write, Nodes}
 use Rattle.svo_top.specs.declared.reporting.Ending.{Ending}
 use Rattle.svo_top.specs.declared.reporting.Ending.TheVariants.{Built as EndsBuilt, Answered, Stopped}
 
@@ -40,7 +40,11 @@ EndsBuild words input out scratch (Stopped Done) = ⊥
 EndsBuild words input out scratch (Stopped (Usage kind)) = ⊥
 EndsBuild words input out scratch (Stopped (Input kind place)) = ⊤
 EndsBuild words input out scratch (Stopped (Range fault)) = ⊤
-EndsBuild words input out scratch (Stopped (Device device)) = ⊤
+EndsBuild words input out scratch (Stopped (Device Read)) = ⊤
+EndsBuild words input out scratch (Stopped (Device Scratch)) = ⊤
+EndsBuild words input out scratch (Stopped (Device Write)) = ⊤
+EndsBuild words input out scratch (Stopped (Device Nodes)) = ⊥
+EndsBuild words input out scratch (Stopped (Refused refusal)) = ⊥
 EndsBuild words input out scratch (Stopped Memory) = ⊤
 
 -- a question that is answered has no line, and it reads no input
@@ -54,4 +58,12 @@ EndsWhy (Stopped (Range fault)) = ⊤
 EndsWhy (Stopped (Device Read)) = ⊥
 EndsWhy (Stopped (Device Scratch)) = ⊥
 EndsWhy (Stopped (Device Write)) = ⊤
+EndsWhy (Stopped (Device Nodes)) = ⊥
+EndsWhy (Stopped (Refused refusal)) = ⊥
 EndsWhy (Stopped Memory) = ⊤
+
+-- a command that counts nothing has no line where it is done
+abbrev pub EndsQuietly : Ending → Type 0
+EndsQuietly (EndsBuilt counts) = ⊥
+EndsQuietly Answered = ⊤
+EndsQuietly (Stopped status) = ⊤

@@ -9,3 +9,13 @@ pub mod Ranges
 pub mod Usage
 pub mod Why
 pub mod CoreRuns
+pub mod NodeFiles
+pub mod Answering
+pub mod Picturing
+pub mod Asking
+pub mod Loaded
+pub mod Commands
+pub mod Doing
+pub mod Rays
+pub mod Make
+pub mod Sum

@@ -7,15 +7,17 @@ use Rattle.svo_base.specs.declared.grids.GridFault.TheVariants.{Depth, Origin, C
 use Rattle.ply_reader.specs.declared.fault.PlyKind.{PlyKind}
 use Rattle.ply_reader.specs.declared.fault.PlyKind.TheVariants as kind
 use Rattle.svo_top.specs.declared.outcome.Status.{Status}
-use Rattle.svo_top.specs.declared.outcome.Status.TheVariants.{Done, Usage, Input, Range, Device, Memory}
+use Rattle.svo_top.specs.declared.outcome.Status.TheVariants.{Done, Usage, Input, Range, Device, Refused, Memory}
 use Rattle.svo_top.specs.declared.outcome.UsageKind.{UsageKind}
 use Rattle.svo_top.specs.declared.outcome.UsageKind.TheVariants.{Command, Options, Value}
 use Rattle.svo_top.specs.declared.outcome.InputKind.{InputKind}
-use Rattle.svo_top.specs.declared.outcome.InputKind.TheVariants.{Ply}
+use Rattle.svo_top.specs.declared.outcome.InputKind.TheVariants.{Ply, BadRay, LineTooLong, TooLong}
 use Rattle.svo_top.specs.declared.outcome.RangeFault.{RangeFault}
-use Rattle.svo_top.specs.declared.outcome.RangeFault.TheVariants.{Decimals, Grid, Memory as TooMuch, LeastMemory, Triangle, Cube}
+use Rattle.svo_top.specs.declared.outcome.RangeFault.TheVariants.{Decimals, Grid, Memory as TooMuch, LeastMemory, Triangle, Cube, Keep, Code, Made, Slice, View, Ray}
 use Rattle.svo_top.specs.declared.outcome.Device.{Device as DeviceName}
-use Rattle.svo_top.specs.declared.outcome.Device.TheVariants.{Read, Scratch, Write}
+use Rattle.svo_top.specs.declared.outcome.Device.TheVariants.{Read, Scratch, Write, Nodes}
+use Rattle.svo_top.specs.declared.outcome.NodeRefusal.{NodeRefusal}
+use Rattle.svo_top.specs.declared.outcome.NodeRefusal.TheVariants.{NoFile, NotNodes, Number}
 
 abbrev pub usage_word : UsageKind → List ℕ
 usage_word Command = codes "command"
@@ -44,6 +46,9 @@ ply_word kind.TooLong = codes "TooLong"
 
 abbrev pub input_word : InputKind → List ℕ
 input_word (Ply kind) = ply_word kind
+input_word BadRay = codes "BadRay"
+input_word LineTooLong = codes "LineTooLong"
+input_word TooLong = codes "TooLong"
 
 abbrev pub grid_word : GridFault → List ℕ
 grid_word Depth = codes "depth"
@@ -58,11 +63,23 @@ range_word TooMuch = codes "memory"
 range_word (LeastMemory least) = codes "memory least " ++ decimal least
 range_word Triangle = codes "triangle"
 range_word Cube = codes "cube"
+range_word Keep = codes "keep"
+range_word Code = codes "code"
+range_word Made = codes "made"
+range_word Slice = codes "slice"
+range_word View = codes "view"
+range_word (Ray place) = codes "ray at " ++ decimal place
 
 abbrev pub device_word : DeviceName → List ℕ
 device_word Read = codes "read"
 device_word Scratch = codes "scratch"
 device_word Write = codes "write"
+device_word Nodes = codes "nodes"
+
+abbrev pub refusal_word : NodeRefusal → List ℕ
+refusal_word NoFile = codes "no file"
+refusal_word NotNodes = codes "not a node file"
+refusal_word (Number number) = codes "number " ++ decimal number ++ codes " refused"
 
 -- the line of a run that stopped; a run that is done has a line of its command's own, or none
 unfoldable pub stop_line : Status → List ℕ
@@ -71,6 +88,7 @@ stop_line (Usage kind) = codes "usage: " ++ usage_word kind ++ codes "\n"
 stop_line (Input kind place) = codes "input: " ++ input_word kind ++ codes " at " ++ decimal place ++ codes "\n"
 stop_line (Range fault) = codes "range: " ++ range_word fault ++ codes "\n"
 stop_line (Device device) = codes "device: " ++ device_word device ++ codes "\n"
+stop_line (Refused refusal) = codes "nodes: " ++ refusal_word refusal ++ codes "\n"
 stop_line Memory = codes "memory\n"
 
 -- the line of a finished build

@@ -1,26 +1,79 @@
 -- What carrying out a command does, whatever the words were.
-use Rattle.std.specs.Prelude.{◌≡◌, ◌≢◌, Option, Some}
-use Rattle.dev_traits.specs.Change.{Change, ScratchChange, IsKept, IsScratchKept}
+use Rattle.std.specs.Prelude.{◌≡◌, ◌≢◌, ◌⊎◌, ℕ, List, Option, None, Some, Ok}
+use Rattle.std.specs.Result.{result_err}
+use Rattle.dev_traits.specs.Change.{Change, ScratchChange, StoreChange, IsFaulted, IsKept, IsScratchKept}
 use Rattle.svo_words.specs.declared.commands.Command.{Command}
-use Rattle.svo_words.specs.declared.commands.Command.TheVariants.{Build, Why}
+use Rattle.svo_words.specs.declared.commands.Command.TheVariants.{Build, Why, Check, Has, Cells, Lift, Cast, Slice, View, Make, Sum}
+use Rattle.svo_top.specs.Asking.{Asks, IsLate, CastsRays}
 use Rattle.svo_top.specs.Build.{BuildMeans, IsUntouched}
-use Rattle.svo_top.specs.Endings.{status_of, EndsBuild, EndsWhy}
-use Rattle.svo_top.specs.Ranges.{RangeIs}
+use Rattle.svo_top.specs.Commands.{NamesNodes, ReadsInput, MayBeLate}
+use Rattle.svo_top.specs.Endings.{status_of, EndsBuild, EndsWhy, EndsQuietly}
+use Rattle.slice_view.specs.Cameras.{CameraShape}
+use Rattle.svo_words.specs.declared.pictures.ViewWords.{ViewWords}
+use Rattle.svo_top.specs.Picturing.{axis_from, camera_of}
+use Rattle.svo_top.specs.Make.{MakeMeans}
+use Rattle.svo_top.specs.Sum.{EndsSum, SumMeans}
+use Rattle.svo_top.specs.Ranges.{RangeIs, range_of, range_of_keep}
 use Rattle.svo_top.specs.Why.{WhyMeans}
+use Rattle.svo_top.specs.declared.asking.Question.{Question}
+use Rattle.svo_top.specs.declared.asking.Question.TheVariants as question
 use Rattle.svo_top.specs.declared.reporting.Ending.{Ending}
 use Rattle.svo_top.specs.declared.outcome.Status.{Status}
-use Rattle.svo_top.specs.declared.outcome.Status.TheVariants.{Usage, Memory}
+use Rattle.svo_top.specs.declared.outcome.Status.TheVariants.{Usage, Input, Range, Refused, Memory}
 use Rattle.svo_top.specs.declared.outcome.UsageKind.{UsageKind}
+use Rattle.svo_top.specs.declared.outcome.InputKind.{InputKind}
 use Rattle.svo_top.specs.declared.outcome.RangeFault.{RangeFault}
+use Rattle.svo_top.specs.declared.outcome.NodeRefusal.{NodeRefusal}
+
+-- a question about the file of a name, unless a number is out of a range that needs no file
+pub record ObeysQuestion (question : Question) (name : List ℕ) (range : Option RangeFault) (input out : Change) (nodes : StoreChange) (ending : Ending) : Type 0 where
+  pub quiet : EndsQuietly ending
+  pub asks : range ≡ None → Asks question name input out nodes (status_of ending)
+
+-- the same of a view, whose camera is within its limits
+pub record ObeysView (words : ViewWords) (input out : Change) (nodes : StoreChange) (ending : Ending) : Type 0 where
+  pub quiet : EndsQuietly ending
+  pub asks : (camera : CameraShape) → camera_of (range_of_keep words.keep) words ≡ Ok camera → Asks (question.View camera) words.nodes input out nodes (status_of ending)
 
 -- what each command means
-abbrev pub Obeys : Command → Change → Change → ScratchChange → Ending → Type 0
-Obeys (Build words) input out scratch ending = EndsBuild words input out scratch ending × BuildMeans words input out scratch (status_of ending)
-Obeys (Why question) input out scratch ending = EndsWhy ending × WhyMeans question out (status_of ending) × IsKept input × IsScratchKept scratch
+abbrev pub Obeys : Command → Change → Change → ScratchChange → StoreChange → Ending → Type 0
+Obeys (Build words) input out scratch nodes ending = EndsBuild words input out scratch ending × BuildMeans words input out scratch (status_of ending) × IsKept nodes
+Obeys (Why words) input out scratch nodes ending = EndsWhy ending × WhyMeans words out (status_of ending) × IsKept input × IsScratchKept scratch × IsKept nodes
+Obeys (Check words) input out scratch nodes ending = ObeysQuestion question.Check words.nodes None input out nodes ending × IsScratchKept scratch
+Obeys (Has words) input out scratch nodes ending = ObeysQuestion (question.Has words.code) words.nodes None input out nodes ending × IsScratchKept scratch
+Obeys (Cells words) input out scratch nodes ending = ObeysQuestion question.Cells words.nodes (range_of_keep words.keep) input out nodes ending × IsScratchKept scratch
+Obeys (Lift words) input out scratch nodes ending = ObeysQuestion question.Lift words.nodes None input out nodes ending × IsScratchKept scratch
+Obeys (Cast words) input out scratch nodes ending = ObeysQuestion question.Cast words.nodes (range_of_keep words.keep) input out nodes ending × IsScratchKept scratch
+Obeys (Slice words) input out scratch nodes ending = ObeysQuestion (question.Slice (axis_from words.axis) words.at) words.nodes (range_of_keep words.keep) input out nodes ending × IsScratchKept scratch
+Obeys (View words) input out scratch nodes ending = ObeysView words input out nodes ending × IsScratchKept scratch
+Obeys (Make words) input out scratch nodes ending = EndsWhy ending × MakeMeans words out (status_of ending) × IsKept input × IsScratchKept scratch × IsKept nodes
+Obeys (Sum words) input out scratch nodes ending = EndsSum ending × SumMeans words out scratch (status_of ending) × IsKept input × IsKept nodes
 
--- what is the same for all: the range that a number is out of is named, and then nothing is touched, nor where memory runs out
-pub record Stops (named : Option RangeFault) (input out : Change) (scratch : ScratchChange) (status : Status) : Type 0 where
+-- what is the same for all: the range that a number is out of is named, and then nothing is touched; nothing is read, put out or kept where memory runs out; and which commands may end so
+pub record Stops (command : Command) (input out : Change) (scratch : ScratchChange) (nodes : StoreChange) (status : Status) : Type 0 where
   pub usage : (kind : UsageKind) → status ≢ Usage kind
-  pub range : RangeIs named status
-  pub unmoved : (fault : RangeFault) → named ≡ Some fault → IsUntouched input out scratch
+  pub comes : (fault : RangeFault) → range_of command ≡ Some fault → status ≡ Range fault
+  pub only : (fault : RangeFault) → status ≡ Range fault → (range_of command ≡ Some fault) ⊎ MayBeLate command fault
+  pub unmoved : (fault : RangeFault) → range_of command ≡ Some fault → IsUntouched input out scratch × IsKept nodes
   pub memory : status ≡ Memory → IsUntouched input out scratch
+  pub refused : (refusal : NodeRefusal) → status ≡ Refused refusal → NamesNodes command
+  pub reads : (kind : InputKind) (place : ℕ) → status ≡ Input kind place → ReadsInput command
+
+-- the same of a question
+pub record StopsQuestion (question : Question) (range : Option RangeFault) (input out : Change) (nodes : StoreChange) (status : Status) : Type 0 where
+  pub usage : (kind : UsageKind) → status ≢ Usage kind
+  pub comes : (fault : RangeFault) → range ≡ Some fault → status ≡ Range fault
+  pub only : (fault : RangeFault) → status ≡ Range fault → (range ≡ Some fault) ⊎ IsLate question fault
+  pub unmoved : (fault : RangeFault) → range ≡ Some fault → IsKept input × IsKept out × IsKept nodes
+  pub memory : status ≡ Memory → IsKept input × IsKept out
+  pub reads : (kind : InputKind) (place : ℕ) → status ≡ Input kind place → CastsRays question
+
+-- the same of a view
+pub record StopsView (words : ViewWords) (input out : Change) (nodes : StoreChange) (status : Status) : Type 0 where
+  pub usage : (kind : UsageKind) → status ≢ Usage kind
+  pub comes : (fault : RangeFault) → result_err (camera_of (range_of_keep words.keep) words) ≡ Some fault → status ≡ Range fault
+  pub only : (fault : RangeFault) → status ≡ Range fault → result_err (camera_of (range_of_keep words.keep) words) ≡ Some fault
+  pub unmoved : (fault : RangeFault) → result_err (camera_of (range_of_keep words.keep) words) ≡ Some fault → IsKept input × IsKept out × IsKept nodes
+  pub memory : status ≡ Memory → IsKept input × IsKept out
+  pub refused : (refusal : NodeRefusal) → status ≡ Refused refusal → (camera : CameraShape) × (camera_of (range_of_keep words.keep) words ≡ Ok camera)
+  pub reads : (kind : InputKind) (place : ℕ) → status ≡ Input kind place → ⊥

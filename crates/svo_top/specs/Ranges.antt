@@ -1,5 +1,5 @@
 -- The ranges of the numbers among the words.
-use Rattle.std.specs.Prelude.{◌≡◌, Bool, ◌&&◌, if◌then◌else◌, ℤ, pos, unsigned_abs, int_le, List, Option, None, Some, Result, Ok, Err}
+use Rattle.std.specs.Prelude.{◌≡◌, ℕ, Bool, ◌&&◌, if◌then◌else◌, false, ℤ, pos, unsigned_abs, int_le, List, [], ◌∷◌, Option, None, Some, Result, Ok, Err}
 use Rattle.std.specs.Result.{result_err}
 use Rattle.svo_base.specs.GridShape.{GridShape}
 use Rattle.svo_base.specs.GridLimits.{grid_from, is_positive, is_within}
@@ -7,8 +7,10 @@ use Rattle.svo_base.specs.declared.grids.GridFault.{GridFault}
 use Rattle.svo_base.specs.declared.grids.GridFault.TheVariants.{Depth}
 use Rattle.svo_base.specs.declared.grids.TheConstants.{MAX_DEPTH}
 use Rattle.svo_words.specs.declared.commands.Command.{Command}
-use Rattle.svo_words.specs.declared.commands.Command.TheVariants.{Build, Why}
+use Rattle.svo_words.specs.declared.commands.Command.TheVariants.{Build, Why, Check, Has, Cells, Lift, Cast, Slice, View, Make, Sum}
 use Rattle.svo_words.specs.declared.build.BuildWords.{BuildWords}
+use Rattle.svo_words.specs.declared.made.MakeWords.{MakeWords}
+use Rattle.svo_words.specs.declared.made.SumWords.{SumWords}
 use Rattle.svo_words.specs.declared.why.WhyWords.{WhyWords}
 use Rattle.svo_base.specs.declared.shapes.Triangle.{Triangle as Shape}
 use Rattle.svo_base.specs.declared.shapes.Cube.{Cube as Box}
@@ -20,11 +22,12 @@ use Rattle.room_plan.specs.declared.planning.MemPlan.{MemPlan}
 use Rattle.room_plan.specs.declared.planning.PlanFault.{PlanFault}
 use Rattle.room_plan.specs.declared.planning.PlanFault.TheVariants.{TooLarge, TooSmall}
 use Rattle.room_plan.specs.Planning.{plan_from}
+use Rattle.svo_top.specs.Picturing.{camera_of}
 use Rattle.svo_top.specs.Questions.{triangle_from, cube_from}
 use Rattle.svo_top.specs.declared.outcome.Status.{Status}
 use Rattle.svo_top.specs.declared.outcome.Status.TheVariants.{Range}
 use Rattle.svo_top.specs.declared.outcome.RangeFault.{RangeFault}
-use Rattle.svo_top.specs.declared.outcome.RangeFault.TheVariants.{Decimals, Grid, Memory, LeastMemory, Triangle, Cube}
+use Rattle.svo_top.specs.declared.outcome.RangeFault.TheVariants.{Decimals, Grid, Memory, LeastMemory, Triangle, Cube, Keep, Made}
 
 -- ---- a build's numbers
 
@@ -47,13 +50,13 @@ choice_from depth (Some origin) (Some cell) = given_by (grid_from depth origin c
 choice_from depth (Some origin) None = fitted_at depth
 choice_from depth None cell = fitted_at depth
 
-abbrev pub planned_job : BuildWords → GridChoice → Result MemPlan PlanFault → Result Job RangeFault
-planned_job words grid (Ok plan) = Ok (record { grid = grid; decimals = unsigned_abs words.decimals; cut = words.cut; plan = plan })
-planned_job words grid (Err TooLarge) = Err Memory
-planned_job words grid (Err (TooSmall least)) = Err (LeastMemory least)
+abbrev pub planned_job : ℕ → Bool → GridChoice → Result MemPlan PlanFault → Result Job RangeFault
+planned_job decimals cut grid (Ok plan) = Ok (record { grid = grid; decimals = decimals; cut = cut; plan = plan })
+planned_job decimals cut grid (Err TooLarge) = Err Memory
+planned_job decimals cut grid (Err (TooSmall least)) = Err (LeastMemory least)
 
 abbrev pub job_on : BuildWords → Result GridChoice GridFault → Result Job RangeFault
-job_on words (Ok grid) = planned_job words grid (plan_from (depth_of grid) words.memory)
+job_on words (Ok grid) = planned_job (unsigned_abs words.decimals) words.cut grid (plan_from (depth_of grid) words.memory)
 job_on words (Err fault) = Err (Grid fault)
 
 -- the job that the words name, or the first range that one of their numbers is out of: the decimals come first, then the grid, and then the memory
@@ -74,12 +77,56 @@ fault_of_shapes (Some triangle) (Some cube) = None
 abbrev pub range_of_question : WhyWords → Option RangeFault
 range_of_question question = fault_of_shapes (triangle_from question.triangle) (cube_from question.cube)
 
+-- ---- the number of kept blocks
+
+-- from 1 to 65,536
+abbrev pub range_of_keep : ℤ → Option RangeFault
+range_of_keep keep = if is_positive keep && is_within 65536 keep then None else Some Keep
+
+-- ---- the numbers of a made mesh
+
+-- a number from 0 on, and a side of 1 to 1024 faces
+abbrev pub is_made : ℤ → ℤ → Bool
+is_made number side = int_le (pos 0) number && (is_positive side && is_within 1024 side)
+
+abbrev pub range_of_make : MakeWords → Option RangeFault
+range_of_make words = if is_made words.number words.side then None else Some Made
+
+-- a sum builds as these words of `build` say: at the origin, in cells as large as the mesh's faces, with whole coordinates
+abbrev pub build_words : SumWords → BuildWords
+build_words words = record {
+  depth = words.depth;
+  memory = words.memory;
+  decimals = pos 0;
+  cut = false;
+  scratch = words.scratch;
+  fit = false;
+  origin = Some (pos 0 ∷ pos 0 ∷ pos 0 ∷ []);
+  cell = Some (pos 16);
+}
+
+-- the job of a sum, or the first range that one of its numbers is out of: the mesh comes first, then the depth, and then the memory
+unfoldable pub sum_job_from : SumWords → Result Job RangeFault
+sum_job_from words = if is_made words.number words.side then job_from (build_words words) else Err Made
+
+abbrev pub range_of_sum : SumWords → Option RangeFault
+range_of_sum words = result_err (sum_job_from words)
+
 -- ---- any command
 
--- the first range that a number of the command is out of
+-- the first range that a number of the command is out of, of those that need no node file and no ray
 abbrev pub range_of : Command → Option RangeFault
 range_of (Build words) = range_of_build words
-range_of (Why question) = range_of_question question
+range_of (Why words) = range_of_question words
+range_of (Check words) = None
+range_of (Has words) = None
+range_of (Cells words) = range_of_keep words.keep
+range_of (Lift words) = None
+range_of (Cast words) = range_of_keep words.keep
+range_of (Slice words) = range_of_keep words.keep
+range_of (View words) = result_err (camera_of (range_of_keep words.keep) words)
+range_of (Make words) = range_of_make words
+range_of (Sum words) = range_of_sum words
 
 -- a command stops for this range, and for no other
 pub record RangeIs (range : Option RangeFault) (status : Status) : Type 0 where

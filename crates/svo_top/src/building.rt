@@ -60,7 +60,7 @@ pub fn build<I: ByteSource, O: ByteSink, S: Scratch>(
 }
 
 /// Builds in a room, with a counter of moves and one of tests of its own.
-fn build_in<I: ByteSource, O: ByteSink, S: Scratch>(
+pub fn build_in<I: ByteSource, O: ByteSink, S: Scratch>(
     job: &Job,
     place: &Text,
     input: &mut I,

@@ -4,6 +4,7 @@ ghost use Rattle.std.specs.Prelude.{◌≡◌, ◌≤◌, ◌&&◌, true, false,
 ghost use Rattle.svo_base.specs.GridLimits.{is_positive, is_within};
 ghost use Rattle.svo_base.specs.declared.grids.TheConstants.{MAX_DEPTH};
 ghost use Rattle.build_core.specs.Meshes.{IsJob, depth_of};
+ghost use Rattle.room_plan.specs.Planning.{plan_from};
 ghost use Rattle.svo_top.specs.Ranges.{choice_from, fitted_at, given_by, has_decimals, job_from, job_on, planned_job};
 
 use crate::outcome::RangeFault;
@@ -26,13 +27,28 @@ pub fn job_from(words: &BuildWords) -> Result<Job, RangeFault>
         Err(fault) => return Err(RangeFault::Grid(fault)),
         Ok(grid) => grid,
     };
-    match plan(depth_of(&grid), words.memory) {
+    planned_job(grid, decimals, words.cut, words.memory)
+}
+
+/// The job on a grid, in so many bytes of memory.
+pub fn planned_job(
+    grid: GridChoice,
+    decimals: u32,
+    cut: bool,
+    memory: i64,
+) -> Result<Job, RangeFault>
+    requires depth { (1 ≤ depth_of grid) × (depth_of grid ≤ 12) }
+    requires decimals { decimals ≤ 9 }
+    ensures job { result ≡ planned_job decimals cut grid (plan_from (depth_of grid) memory) }
+    ensures is { IfOk result IsJob }
+{
+    match plan(depth_of(&grid), memory) {
         Err(PlanFault::TooLarge) => Err(RangeFault::Memory),
         Err(PlanFault::TooSmall(least)) => Err(RangeFault::LeastMemory(least)),
         Ok(plan) => Ok(Job {
             grid,
             decimals,
-            cut: words.cut,
+            cut,
             plan,
         }),
     }
@@ -52,7 +68,7 @@ fn decimals_of(decimals: i64) -> Option<u32>
 }
 
 /// The grid of these numbers; without an origin and a cell it is fitted to the mesh.
-fn choice_of(
+pub fn choice_of(
     depth: i64,
     origin: &Option<[i64; 3]>,
     cell: &Option<i64>,

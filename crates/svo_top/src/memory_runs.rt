@@ -1,7 +1,7 @@
 //! Runs over devices in memory.
 
 use crate::{Status, run};
-use dev_traits::{MemScratch, MemSink, MemSource, PartFail};
+use dev_traits::{MemScratch, MemSink, MemSource, MemStore, PartFail};
 use std::alloc::{AllocError, Global};
 use svo_base::Words;
 
@@ -28,6 +28,9 @@ pub struct Devices<'a> {
     pub put_fails: &'a [PartFail],
     pub scratch_fails: &'a [PartFail],
     pub error_fails: &'a [PartFail],
+    pub store_fails: &'a [u64],
+    /// The bytes of the store's one file, whose name is `octree`.
+    pub file: &'a [u8],
 }
 
 /// Devices that refuse nothing of a build in up to eight parts.
@@ -39,9 +42,12 @@ pub const HONEST: Devices<'static> = Devices {
     put_fails: &[],
     scratch_fails: &[],
     error_fails: &[],
+    store_fails: &[],
+    file: &[],
 };
 
 /// Runs the words over a text and these devices.
+#[tactic(auto, unfolding(dev_traits::specs::Files::file_named))]
 pub fn run_over(
     alloc: Global,
     words: &[&str],
@@ -55,8 +61,18 @@ pub fn run_over(
     let mut input = MemSource::new(alloc, text, devices.piece.max(1), devices.read_fails)?;
     let mut out = MemSink::new(alloc, devices.room, devices.put_fails)?;
     let mut err = MemSink::new(alloc, 128, devices.error_fails)?;
-    let mut scratch = MemScratch::new(alloc, devices.streams, 256, devices.scratch_fails)?;
-    let status = run(alloc, &list, &mut input, &mut out, &mut err, &mut scratch);
+    let mut scratch = MemScratch::new(alloc, devices.streams, 2048, devices.scratch_fails)?;
+    let mut nodes = MemStore::new(alloc, devices.store_fails)?;
+    nodes.add("octree", devices.file)?;
+    let status = run(
+        alloc,
+        &list,
+        &mut input,
+        &mut out,
+        &mut err,
+        &mut scratch,
+        &mut nodes,
+    );
     Ok(Outcome {
         status,
         out,

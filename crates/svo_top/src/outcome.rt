@@ -19,6 +19,8 @@ pub enum Status {
     Range(RangeFault),
     /// A device failed.
     Device(Device),
+    /// The named file is no node file.
+    Refused(NodeRefusal),
     /// There was not enough memory.
     Memory,
 }
@@ -39,6 +41,12 @@ pub enum UsageKind {
 pub enum InputKind {
     /// The text is no mesh in ASCII PLY.
     Ply(PlyKind),
+    /// A line of the text of rays is not six numbers.
+    BadRay,
+    /// A line of the text of rays has more than 1024 bytes.
+    LineTooLong,
+    /// The text of rays has more than 2^62 bytes.
+    TooLong,
 }
 
 /// Which range a number is out of.
@@ -56,6 +64,18 @@ pub enum RangeFault {
     Triangle,
     /// A coordinate of the cube's lower corner has a size above 2^32, or its side is not from 1 to 2^32.
     Cube,
+    /// The number of kept blocks is not from 1 to 65,536.
+    Keep,
+    /// The code is not that of a cell of the file's grid.
+    Code,
+    /// The number of a made mesh is below 0, or its side is not from 1 to 1024.
+    Made,
+    /// The slice is not at a place of the file's grid.
+    Slice,
+    /// A number of the camera is out of its limits.
+    View,
+    /// A ray is out of its limits. The place is the number of bytes before its line.
+    Ray(u64),
 }
 
 /// Which device failed.
@@ -67,10 +87,24 @@ pub enum Device {
     Scratch,
     /// The output.
     Write,
+    /// The store of node files.
+    Nodes,
+}
+
+/// Why a named file is no node file.
+#[derive(Clone, Copy, Debug, PartialEq, Eq)]
+pub enum NodeRefusal {
+    /// No file has the name.
+    NoFile,
+    /// The file is not framed as a node file is.
+    NotNodes,
+    /// It is framed, and its words are those of no cells. The number is that of the first word that
+    /// does not fit, from the root down, or the number behind the last one for the trailer.
+    Number(u64),
 }
 
 impl Status {
-    /// The exit status of the process: 0 where the run is done, and else 2, 3, 4, 5 or 7.
+    /// The exit status of the process: 0 where the run is done, and else a number from 2 to 7.
     pub fn code(&self) -> u8
         ensures { result ≡ code_of_status self.now }
     {
@@ -80,6 +114,7 @@ impl Status {
             Status::Input { .. } => 3,
             Status::Range(_) => 4,
             Status::Device(_) => 5,
+            Status::Refused(_) => 6,
             Status::Memory => 7,
         }
     }

@@ -3,10 +3,10 @@
 ghost use Rattle.std.specs.Prelude.{◌≡◌, [], ◌≤◌, ◌+◌, ◌++◌, length, codes, decimal};
 ghost use Rattle.arrayvec.specs.ArrayString.{array_string_len};
 ghost use Rattle.dev_traits.specs.Change.{change_of, IsKept};
-ghost use Rattle.svo_top.specs.Lines.{usage_word, input_word, ply_word, grid_word, range_word, device_word, stop_line, built_line, Says};
+ghost use Rattle.svo_top.specs.Lines.{usage_word, input_word, ply_word, grid_word, range_word, device_word, refusal_word, stop_line, built_line, Says};
 ghost use Rattle.svo_top.specs.Endings.{line_of, status_of};
 
-use crate::outcome::{Device, InputKind, RangeFault, Status, UsageKind};
+use crate::outcome::{Device, InputKind, NodeRefusal, RangeFault, Status, UsageKind};
 use arrayvec::ArrayString;
 use dev_traits::ByteSink;
 use itoa::Buffer;
@@ -32,9 +32,9 @@ pub struct Counts {
 pub enum Ending {
     /// A build is done.
     Built(Counts),
-    /// A question is answered, which has no line.
+    /// A command that counts nothing is done, which has no line.
     Answered,
-    /// The command stopped.
+    /// A command ended so, and counted nothing.
     Stopped(Status),
 }
 
@@ -98,6 +98,7 @@ fn stop_line(status: &Status) -> Line
         Status::Input { kind, place } => placed_line(input_word(*kind), *place),
         Status::Range(fault) => range_line(*fault),
         Status::Device(device) => worded_line("device: ", device_word(*device)),
+        Status::Refused(refusal) => refusal_line(*refusal),
         Status::Memory => worded_line("memory", ""),
     }
 }
@@ -155,6 +156,9 @@ fn input_word(kind: InputKind) -> &'static str
 {
     match kind {
         InputKind::Ply(kind) => ply_word(kind),
+        InputKind::BadRay => "BadRay",
+        InputKind::LineTooLong => "LineTooLong",
+        InputKind::TooLong => "TooLong",
     }
 }
 
@@ -199,6 +203,15 @@ fn range_line(fault: RangeFault) -> Line
         }
         RangeFault::Triangle => line.push_str("triangle"),
         RangeFault::Cube => line.push_str("cube"),
+        RangeFault::Keep => line.push_str("keep"),
+        RangeFault::Code => line.push_str("code"),
+        RangeFault::Made => line.push_str("made"),
+        RangeFault::Slice => line.push_str("slice"),
+        RangeFault::View => line.push_str("view"),
+        RangeFault::Ray(place) => {
+            line.push_str("ray at ");
+            push_number(&mut line, place);
+        }
     }
     line.push_str("\n");
     line
@@ -224,5 +237,25 @@ fn device_word(device: Device) -> &'static str
         Device::Read => "read",
         Device::Scratch => "scratch",
         Device::Write => "write",
+        Device::Nodes => "nodes",
     }
+}
+
+/// The line of a named file that is no node file.
+fn refusal_line(refusal: NodeRefusal) -> Line
+    ensures { result.bytes ≡ codes "nodes: " ++ refusal_word refusal ++ codes "\n" }
+{
+    let mut line = Line::new();
+    line.push_str("nodes: ");
+    match refusal {
+        NodeRefusal::NoFile => line.push_str("no file"),
+        NodeRefusal::NotNodes => line.push_str("not a node file"),
+        NodeRefusal::Number(number) => {
+            line.push_str("number ");
+            push_number(&mut line, number);
+            line.push_str(" refused");
+        }
+    }
+    line.push_str("\n");
+    line
 }

@@ -8,7 +8,7 @@ use svo_base::GridFault;
 const WRONG_WORDS: &[(&[&str], Status, &str)] = &[
     (&[], Status::Usage(UsageKind::Command), "usage: command\n"),
     (
-        &["make"],
+        &["render"],
         Status::Usage(UsageKind::Command),
         "usage: command\n",
     ),

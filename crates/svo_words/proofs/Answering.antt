@@ -1,9 +1,7 @@
 -- From the values of options to a command.
-use Rattle.std.proofs.Common.{◌≡◌, ℕ, ◌<◌, true, false, List, [], ◌∷◌, length, drop, Option, None, Some, option_map, Result, Ok, Err, IsErr, IsErrAnd, subst, inl, inr, arith, refl, sym, ap, ◌∙◌}
-use Rattle.std.specs.Prelude.{slice_index_or, IfSome, codes}
+use Rattle.std.proofs.Common.{◌≡◌, ℕ, true, false, List, Option, None, Some, option_map, Result, Ok, Err, IsErr, IsErrAnd, subst, inl, inr, refl, sym, ap, ◌∙◌}
+use Rattle.std.specs.Prelude.{IfSome}
 use Rattle.std.specs.Option.{ok_or}
-use Rattle.std.specs.Str.{bytes_eq}
-use Rattle.std.proofs.lemmas.Bool.{cases_Bool}
 use Rattle.clap.specs.Matches.{found_of, first_value}
 use Rattle.clap.specs.declared.parser.matches.ArgMatches.{ArgMatches}
 use Rattle.svo_words.specs.Choices.{Choice}
@@ -13,13 +11,12 @@ use Rattle.svo_words.specs.Names.{passes}
 use Rattle.svo_words.specs.Matching.{HasFound}
 use Rattle.svo_words.specs.Lookups.{Lookup}
 use Rattle.svo_words.specs.Seen.{values_of}
-use Rattle.svo_words.specs.Forms.{CommandForm, commands, build_form, why_form, read_as, form_of}
+use Rattle.svo_words.specs.Forms.{CommandForm, read_as}
 use Rattle.svo_words.specs.Reading.{IsRead, IsMade, AreValues}
-use Rattle.svo_words.proofs.Choosing.{equal_bytes}
 use Rattle.svo_words.specs.declared.values.Values.{Values}
 use Rattle.svo_words.specs.declared.commands.Command.{Command}
 use Rattle.svo_words.specs.declared.commands.WordFault.{WordFault}
-use Rattle.svo_words.specs.declared.commands.WordFault.TheVariants.{Options, Value, Memory, Command as NoCommand}
+use Rattle.svo_words.specs.declared.commands.WordFault.TheVariants.{Options, Value, Memory}
 
 -- ---- the values of the options
 
@@ -117,30 +114,3 @@ pub made_answer_of : {A : Type 0} (variant : A → Command) (reads : Lookup → 
 made_answer_of variant reads name options choices words values result table found made =
     let P : List Choice → Type 0 = λ list. AreValues (settings_in list words) (Ok values) in
     made_read_as variant reads name choices words values result (subst P table found) made
-
--- ---- the first word
-
-first_is : (words : List (List ℕ)) → 0 < length words → words ≡ slice_index_or words 0 [] ∷ drop 1 words
-first_is [] some = absurd (omega arith)
-first_is (word ∷ rest) some = refl
-
--- the words of a command
-pub build_named : (words : List (List ℕ)) → 0 < length words → slice_index_or words 0 [] ≡ codes "build"
-    → form_of words ≡ read_as build_form (settings_in build_form.choices (drop 1 words))
-unfolding form_of commands
-build_named words some name = ap form_of (first_is words some) ∙ ap (λ word. form_of (word ∷ drop 1 words)) name
-
-pub why_named : (words : List (List ℕ)) → 0 < length words → slice_index_or words 0 [] ≡ codes "why"
-    → form_of words ≡ read_as why_form (settings_in why_form.choices (drop 1 words))
-unfolding form_of commands
-why_named words some name = ap form_of (first_is words some) ∙ ap (λ word. form_of (word ∷ drop 1 words)) name
-
-unlike : (word name : List ℕ) → (word ≡ name → ⊥) → bytes_eq word name ≡ false
-unlike word name differ = elim (cases_Bool (bytes_eq word name)) [ inl same ↦ absurd (differ (equal_bytes word name same)) | inr other ↦ other ]
-
-pub not_named : (words : List (List ℕ)) → 0 < length words → (slice_index_or words 0 [] ≡ codes "build" → ⊥) → (slice_index_or words 0 [] ≡ codes "why" → ⊥) → form_of words ≡ Err NoCommand
-unfolding form_of commands
-not_named words some build why =
-    let no_build = unlike (slice_index_or words 0 []) (codes "build") build in
-    let no_why = unlike (slice_index_or words 0 []) (codes "why") why in
-    ap form_of (first_is words some) ∙ rw (no_build, no_why) refl

@@ -1,6 +1,7 @@
 pub mod Agreement
 pub mod Answering
 pub mod Choosing
+pub mod CommandTable
 pub mod Counts
 pub mod Digits
 pub mod FormTests
@@ -12,3 +13,4 @@ pub mod Rows
 pub mod Rules
 pub mod Spellings
 pub mod Walks
+pub mod Worked

@@ -7,14 +7,13 @@ use Rattle.svo_words.specs.Choices.{Choice, are_names}
 use Rattle.svo_words.specs.Settings.{Setting, are_counted, value_of}
 use Rattle.svo_words.specs.Grammar.{Spells, IsInForm}
 use Rattle.svo_words.specs.Steps.{settings_of, settings_in, counted}
-use Rattle.svo_words.specs.Build.{build_choices}
-use Rattle.svo_words.specs.Why.{why_choices}
 use Rattle.svo_words.specs.Forms.{CommandForm, commands, has_name, read_as, read_by, form_of}
 use Rattle.svo_words.specs.Meaning.{IsAmong, Begins, Sets, Means}
 use Rattle.svo_words.specs.declared.commands.Command.{Command}
 use Rattle.svo_words.specs.declared.commands.WordFault.{WordFault}
 use Rattle.svo_words.specs.declared.commands.WordFault.TheVariants.{Command as NoCommand, Options, Value, Memory}
 use Rattle.svo_words.proofs.Choosing.{equal_bytes}
+use Rattle.svo_words.proofs.CommandTable.{names_ok, found_by_name, begins_reads}
 use Rattle.svo_words.proofs.Spellings.{both_read, spells_reads}
 
 pub one_list : (choices : List Choice) (words : List (List ℕ)) (a b : List Setting) → are_names choices ≡ true → Spells choices words a → Spells choices words b → a ≡ b
@@ -46,19 +45,6 @@ reads_in_form choices words settings e = go (settings_of choices words) refl e
 
 -- ---- the commands
 
-names_ok : (form : CommandForm) → IsAmong commands form → are_names form.choices ≡ true
-unfolding commands build_choices why_choices
-names_ok form (inl is) = ap (λ (f : CommandForm). are_names f.choices) (sym is)
-names_ok form (inr (inl is)) = ap (λ (f : CommandForm). are_names f.choices) (sym is)
-names_ok form (inr (inr none)) = absurd none
-
--- a command is found by its name
-found_by_name : (form : CommandForm) → IsAmong commands form → find (has_name form.name) commands ≡ Some form
-unfolding commands
-found_by_name form (inl is) = let P : CommandForm → Type 0 = λ f. find (has_name f.name) commands ≡ Some f in subst P is refl
-found_by_name form (inr (inl is)) = let P : CommandForm → Type 0 = λ f. find (has_name f.name) commands ≡ Some f in subst P is refl
-found_by_name form (inr (inr none)) = absurd none
-
 found_among : (forms : List CommandForm) (name : List ℕ) (form : CommandForm) → find (has_name name) forms ≡ Some form → IsAmong forms form × (name ≡ form.name)
 found_among [] name form e = absurd cc
 found_among (one ∷ rest) name form e = elim (cases_Bool (has_name name one)) [
@@ -68,11 +54,6 @@ found_among (one ∷ rest) name form e = elim (cases_Bool (has_name name one)) [
       (inl same, equal_bytes name one.name here ∙ ap (λ (f : CommandForm). f.name) same)
   | inr later ↦ let more = found_among rest name form (rw later at e) in (inr more.0, more.1)
 ]
-
-begins_reads : (words : List (List ℕ)) (form : CommandForm) (rest : List (List ℕ)) → Begins words form rest → form_of words ≡ read_as form (settings_in form.choices rest)
-unfolding form_of
-begins_reads words form rest begins =
-    ap form_of begins.words_are ∙ ap (λ (o : Option CommandForm). read_by o rest) (found_by_name form begins.known)
 
 -- ---- both ways
 

@@ -1,18 +1,21 @@
 -- A build has a corner and a cell exactly where its grid is not fitted.
-use Rattle.std.proofs.Common.{◌≡◌, ℕ, Bool, true, false, List, Option, None, Some, option_map, Ok, inl, inr, refl, sym, subst}
-use Rattle.std.specs.Prelude.{ℤ, not, is_some, pos, codes}
+use Rattle.std.proofs.Common.{◌≡◌, ℕ, Bool, true, false, List, [], ◌∷◌, Option, None, Some, option_map, Ok, inl, inr, refl, sym, subst}
+use Rattle.std.specs.Prelude.{ℤ, not, is_some, pos, codes, ⊤}
 use Rattle.svo_words.specs.Build.{build_numbers, build_from, unless, with_scratch, HasOneGrid}
-use Rattle.svo_words.specs.Forms.{CommandForm, commands}
+use Rattle.svo_words.specs.Forms.{CommandForm, commands, cast_form, check_form, cells_form, has_form, why_form, slice_form, view_form, lift_form, make_form, sum_form}
 use Rattle.svo_words.specs.Lookups.{Lookup}
 use Rattle.svo_words.specs.Meaning.{IsAmong, Means}
 use Rattle.svo_words.specs.Numbers.{◌>>=◌}
 use Rattle.svo_words.specs.Settings.{value_of}
 use Rattle.svo_words.specs.Values.{is_set, number_in, number_or, numbers_in, text_or}
+use Rattle.svo_words.specs.Nodes.{check_from, has_from, cells_from, lift_from, cast_from}
+use Rattle.svo_words.specs.Made.{make_from, sum_from}
+use Rattle.svo_words.specs.Pictures.{slice_from, view_from}
 use Rattle.svo_words.specs.Why.{why_from}
 use Rattle.svo_words.specs.declared.build.BuildNumbers.{BuildNumbers}
 use Rattle.svo_words.specs.declared.build.BuildWords.{BuildWords}
-use Rattle.svo_words.specs.declared.why.WhyWords.{WhyWords}
-use Rattle.svo_words.specs.declared.commands.Command.TheVariants.{Build, Why}
+use Rattle.svo_words.specs.declared.commands.Command.{Command}
+use Rattle.svo_words.specs.declared.commands.Command.TheVariants.{Build, Cast, Check, Cells, Has, Why, Slice, View, Lift, Make, Sum}
 
 -- a value that is wanted without a flag is there exactly where the flag is not
 there : {A : Type 0} (flag : Bool) (wanted : Option A) (value : Option A) → unless flag wanted ≡ Some value → is_some value ≡ not flag
@@ -71,19 +74,45 @@ read_as_build : (o : Option BuildWords) (job : BuildWords) → option_map Build 
 read_as_build None job e = absurd cc
 read_as_build (Some found) job e = let same : found ≡ job = cc in rw same refl
 
-not_why : (o : Option WhyWords) (job : BuildWords) → option_map Why o ≡ Some (Build job) → ⊥
-not_why None job e = absurd cc
-not_why (Some found) job e = absurd cc
+-- ---- no other command reads a build
+
+abbrev IsBuild : Command → Type 0
+IsBuild (Build job) = ⊤
+IsBuild other = ⊥
+
+abbrev IsOther : CommandForm → Type 0
+IsOther form = (values : Lookup) (job : BuildWords) → form.reads values ≡ Some (Build job) → ⊥
+
+abbrev AreOthers : List CommandForm → Type 0
+AreOthers [] = ⊤
+AreOthers (form ∷ rest) = IsOther form × AreOthers rest
+
+no_build_of : {A : Type 0} (variant : A → Command) (o : Option A) (job : BuildWords) → ((a : A) → IsBuild (variant a) → ⊥) → option_map variant o ≡ Some (Build job) → ⊥
+no_build_of variant None job other e = absurd cc
+no_build_of variant (Some a) job other e =
+    let same : variant a ≡ Build job = cc in
+    other a (subst IsBuild (sym same) tt)
+
+other_among : (forms : List CommandForm) (form : CommandForm) → AreOthers forms → IsAmong forms form → IsOther form
+other_among [] form others none = absurd none
+other_among (one ∷ rest) form others (inl same) = subst IsOther same others.0
+other_among (one ∷ rest) form others (inr later) = other_among rest form others.1 later
+
+no_build : {A : Type 0} (variant : A → Command) (reads : Lookup → Option A) → ((a : A) → IsBuild (variant a) → ⊥) → (values : Lookup) (job : BuildWords) → option_map variant (reads values) ≡ Some (Build job) → ⊥
+no_build variant reads other values job e = no_build_of variant (reads values) job other e
+
+abbrev other_forms : List CommandForm
+other_forms = cast_form ∷ check_form ∷ cells_form ∷ has_form ∷ why_form ∷ slice_form ∷ view_form ∷ lift_form ∷ make_form ∷ sum_form ∷ []
+
+all_others : AreOthers other_forms
+all_others = (no_build Cast cast_from (λ a none. none), (no_build Check check_from (λ a none. none), (no_build Cells cells_from (λ a none. none), (no_build Has has_from (λ a none. none), (no_build Why why_from (λ a none. none), (no_build Slice slice_from (λ a none. none), (no_build View view_from (λ a none. none), (no_build Lift lift_from (λ a none. none), (no_build Make make_from (λ a none. none), (no_build Sum sum_from (λ a none. none), tt))))))))))
 
 by_command : (values : Lookup) (job : BuildWords) (form : CommandForm) → IsAmong commands form → form.reads values ≡ Some (Build job) → HasOneGrid job
 unfolding commands
 by_command values job form (inl same) reads =
     let P : CommandForm → Type 0 = λ (f : CommandForm). f.reads values ≡ Some (Build job) in
     build_has_one values job (read_as_build (build_from values) job (subst P (sym same) reads))
-by_command values job form (inr (inl same)) reads =
-    let P : CommandForm → Type 0 = λ (f : CommandForm). f.reads values ≡ Some (Build job) in
-    absurd (not_why (why_from values) job (subst P (sym same) reads))
-by_command values job form (inr (inr none)) reads = absurd none
+by_command values job form (inr later) reads = absurd (other_among other_forms form all_others later values job reads)
 
 pub one_grid_is : (words : List (List ℕ)) (job : BuildWords) → Means words (Ok (Build job)) → HasOneGrid job
 one_grid_is words job (form, settings, sets, is) = by_command (value_of settings) job form sets.begins.known is

@@ -5,11 +5,14 @@ pub mod Forms
 pub mod Grammar
 pub mod Kinds
 pub mod Lookups
+pub mod Made
 pub mod Matching
 pub mod Meaning
 pub mod Names
+pub mod Nodes
 pub mod NumberFronts
 pub mod Numbers
+pub mod Pictures
 pub mod Reading
 pub mod Seen
 pub mod Settings

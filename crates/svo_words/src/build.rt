@@ -5,7 +5,7 @@ ghost use Rattle.svo_words.specs.Build.{build_choices, build_numbers, unless, wi
 ghost use Rattle.svo_words.specs.Choices.{are_names};
 ghost use Rattle.svo_words.specs.Reading.{IsMade};
 ghost use Rattle.svo_words.specs.Seen.{values_of};
-ghost use Rattle.svo_words.specs.Values.{number_in, numbers_in};
+ghost use Rattle.svo_words.specs.Values.{number_in, numbers_in, text_or};
 
 use crate::choices::Choice;
 use crate::commands::WordFault;
@@ -14,7 +14,7 @@ use crate::values::Values;
 use std::alloc::Global;
 
 /// The memory limit in bytes, where none is given.
-const MEMORY: i64 = 268435456;
+pub(crate) const MEMORY: i64 = 268435456;
 
 /// The values of `build`, whatever their ranges.
 #[derive(Debug, Drop)]
@@ -113,13 +113,23 @@ pub(crate) fn build_from(alloc: Global, values: &Values) -> Result<BuildWords, W
     let Some(numbers) = numbers_from(values) else {
         return Err(WordFault::Value);
     };
+    match scratch_from(alloc, values) {
+        Err(fault) => Err(fault),
+        Ok(scratch) => Ok(with_scratch(&numbers, scratch)),
+    }
+}
+
+/// The place of the scratch: `Value` where it is no text, `Memory` where there is no memory for it.
+pub(crate) fn scratch_from(alloc: Global, values: &Values) -> Result<Text, WordFault>
+    ensures { IsMade (text_or (codes "svo_scratch") (values_of values.now) (codes "scratch")) result }
+{
     let Some(place) = values.text_or("svo_scratch", "scratch") else {
         return Err(WordFault::Value);
     };
-    let Ok(scratch) = Text::new(alloc, place) else {
-        return Err(WordFault::Memory);
-    };
-    Ok(with_scratch(&numbers, scratch))
+    match Text::new(alloc, place) {
+        Err(_) => Err(WordFault::Memory),
+        Ok(scratch) => Ok(scratch),
+    }
 }
 
 /// The numbers with the text.

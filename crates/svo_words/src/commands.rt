@@ -4,14 +4,23 @@ ghost use Rattle.std.specs.Prelude.{map};
 ghost use Rattle.std.specs.String.{string_bytes};
 ghost use Rattle.svo_words.specs.Build.{build_choices};
 ghost use Rattle.svo_words.specs.Steps.{settings_in};
-ghost use Rattle.svo_words.specs.Forms.{form_of, build_form, why_form, read_as};
+ghost use Rattle.svo_words.specs.Forms.{form_of, build_form, cast_form, check_form, cells_form, has_form, why_form, slice_form, view_form, lift_form, make_form, sum_form, read_as};
+ghost use Rattle.svo_words.specs.Made.{make_choices, sum_choices};
+ghost use Rattle.svo_words.specs.Nodes.{nodes_choices, has_choices, kept_choices};
+ghost use Rattle.svo_words.specs.Pictures.{slice_choices, view_choices};
 ghost use Rattle.svo_words.specs.Reading.{IsRead, AreValues};
 ghost use Rattle.svo_words.specs.Why.{why_choices};
 
 use crate::build::{BuildWords, build_choices, build_from};
 use crate::choices::Choice;
 use crate::form_test::is_in_form;
+use crate::made::{MakeWords, SumWords, make_choices, make_from, sum_choices, sum_from};
 use crate::matching::matches_of;
+use crate::nodes::{
+    CastWords, CellsWords, CheckWords, HasWords, LiftWords, cast_from, cells_from, check_from,
+    has_choices, has_from, kept_choices, lift_from, nodes_choices,
+};
+use crate::pictures::{SliceWords, ViewWords, slice_choices, slice_from, view_choices, view_from};
 use crate::values::Values;
 use crate::why::{WhyWords, why_choices, why_from};
 use std::alloc::Global;
@@ -22,7 +31,16 @@ use thiserror::Error;
 #[derive(Drop)]
 pub enum Command {
     Build(BuildWords),
+    Cast(CastWords),
+    Check(CheckWords),
+    Cells(CellsWords),
+    Has(HasWords),
     Why(WhyWords),
+    Slice(SliceWords),
+    View(ViewWords),
+    Lift(LiftWords),
+    Make(MakeWords),
+    Sum(SumWords),
 }
 
 /// Why words are no command.
@@ -52,7 +70,16 @@ pub fn read_words(alloc: Global, words: &Words) -> Result<Command, WordFault>
     }
     match words.get(0) {
         "build" => read_build(alloc, words.tail(1)),
+        "cast" => read_cast(alloc, words.tail(1)),
+        "check" => read_check(alloc, words.tail(1)),
+        "cells" => read_cells(alloc, words.tail(1)),
+        "has" => read_has(alloc, words.tail(1)),
         "why" => read_why(alloc, words.tail(1)),
+        "slice" => read_slice(alloc, words.tail(1)),
+        "view" => read_view(alloc, words.tail(1)),
+        "lift" => read_lift(alloc, words.tail(1)),
+        "make" => read_make(alloc, words.tail(1)),
+        "sum" => read_sum(alloc, words.tail(1)),
         _ => Err(WordFault::Command),
     }
 }
@@ -78,6 +105,114 @@ fn read_why(alloc: Global, words: &[String]) -> Result<Command, WordFault>
     match why_from(&values) {
         None => Err(WordFault::Value),
         Some(why) => Ok(Command::Why(why)),
+    }
+}
+
+/// The command `check` of the words after its name.
+fn read_check(alloc: Global, words: &[String]) -> Result<Command, WordFault>
+    ensures { IsRead (read_as check_form (settings_in nodes_choices (map string_bytes words.now))) result }
+{
+    let choices = nodes_choices();
+    let values = read_values(alloc, &choices, words)?;
+    match check_from(alloc, &values) {
+        Err(fault) => Err(fault),
+        Ok(check) => Ok(Command::Check(check)),
+    }
+}
+
+/// The command `has` of the words after its name.
+fn read_has(alloc: Global, words: &[String]) -> Result<Command, WordFault>
+    ensures { IsRead (read_as has_form (settings_in has_choices (map string_bytes words.now))) result }
+{
+    let choices = has_choices();
+    let values = read_values(alloc, &choices, words)?;
+    match has_from(alloc, &values) {
+        Err(fault) => Err(fault),
+        Ok(has) => Ok(Command::Has(has)),
+    }
+}
+
+/// The command `cells` of the words after its name.
+fn read_cells(alloc: Global, words: &[String]) -> Result<Command, WordFault>
+    ensures { IsRead (read_as cells_form (settings_in kept_choices (map string_bytes words.now))) result }
+{
+    let choices = kept_choices();
+    let values = read_values(alloc, &choices, words)?;
+    match cells_from(alloc, &values) {
+        Err(fault) => Err(fault),
+        Ok(cells) => Ok(Command::Cells(cells)),
+    }
+}
+
+/// The command `lift` of the words after its name.
+fn read_lift(alloc: Global, words: &[String]) -> Result<Command, WordFault>
+    ensures { IsRead (read_as lift_form (settings_in nodes_choices (map string_bytes words.now))) result }
+{
+    let choices = nodes_choices();
+    let values = read_values(alloc, &choices, words)?;
+    match lift_from(alloc, &values) {
+        Err(fault) => Err(fault),
+        Ok(lift) => Ok(Command::Lift(lift)),
+    }
+}
+
+/// The command `cast` of the words after its name.
+fn read_cast(alloc: Global, words: &[String]) -> Result<Command, WordFault>
+    ensures { IsRead (read_as cast_form (settings_in kept_choices (map string_bytes words.now))) result }
+{
+    let choices = kept_choices();
+    let values = read_values(alloc, &choices, words)?;
+    match cast_from(alloc, &values) {
+        Err(fault) => Err(fault),
+        Ok(cast) => Ok(Command::Cast(cast)),
+    }
+}
+
+/// The command `slice` of the words after its name.
+fn read_slice(alloc: Global, words: &[String]) -> Result<Command, WordFault>
+    ensures { IsRead (read_as slice_form (settings_in slice_choices (map string_bytes words.now))) result }
+{
+    let choices = slice_choices();
+    let values = read_values(alloc, &choices, words)?;
+    match slice_from(alloc, &values) {
+        Err(fault) => Err(fault),
+        Ok(slice) => Ok(Command::Slice(slice)),
+    }
+}
+
+/// The command `view` of the words after its name.
+fn read_view(alloc: Global, words: &[String]) -> Result<Command, WordFault>
+    ensures { IsRead (read_as view_form (settings_in view_choices (map string_bytes words.now))) result }
+{
+    let choices = view_choices();
+    let values = read_values(alloc, &choices, words)?;
+    match view_from(alloc, &values) {
+        Err(fault) => Err(fault),
+        Ok(view) => Ok(Command::View(view)),
+    }
+}
+
+/// The command `make` of the words after its name.
+fn read_make(alloc: Global, words: &[String]) -> Result<Command, WordFault>
+    ensures { IsRead (read_as make_form (settings_in make_choices (map string_bytes words.now))) result }
+{
+    let choices = make_choices();
+    let values = read_values(alloc, &choices, words)?;
+    match make_from(&values) {
+        None => Err(WordFault::Value),
+        Some(make) => Ok(Command::Make(make)),
+    }
+}
+
+/// The command `sum` of the words after its name.
+fn read_sum(alloc: Global, words: &[String]) -> Result<Command, WordFault>
+    ensures { IsRead (read_as sum_form (settings_in sum_choices (map string_bytes words.now))) result }
+{
+    let choices = sum_choices();
+    let values = read_values(alloc, &choices, words)?;
+    match sum_from(alloc, &values) {
+        Err(fault) => Err(fault),
+        Ok(sum) => Ok(Command::Sum(sum)),
     }
 }
 

@@ -7,8 +7,11 @@ mod commands;
 mod form_test;
 mod kinds;
 mod laws;
+mod made;
 mod matching;
+mod nodes;
 mod numbers;
+mod pictures;
 mod values;
 mod why;
 
@@ -16,7 +19,12 @@ pub use build::BuildWords;
 pub use commands::{Command, WordFault, read_words};
 pub use kinds::{AxisWord, KindWord, Text};
 pub use laws::{one_grid, one_meaning, one_spelling};
+pub use made::{MakeWords, SumWords};
+pub use nodes::{CastWords, CellsWords, CheckWords, HasWords, LiftWords};
+pub use pictures::{SliceWords, ViewWords};
 pub use why::WhyWords;
 
+#[cfg(test)]
+mod command_tests;
 #[cfg(test)]
 mod tests;

@@ -5,7 +5,7 @@ use crate::{AxisWord, BuildWords, Command, KindWord, Text, WhyWords, WordFault, 
 use std::alloc::{AllocError, Global};
 use svo_base::Words;
 
-fn words_of(alloc: Global, words: &[&str]) -> Result<Words, AllocError> {
+pub(crate) fn words_of(alloc: Global, words: &[&str]) -> Result<Words, AllocError> {
     let mut list = Words::new(alloc);
     for word in words {
         list.push(word)?;
@@ -157,7 +157,7 @@ fn builds_are_read_in_any_order(rt: HostRuntime) {
                 assert!(rt; found == wanted, "the numbers of {words:?}");
                 assert!(rt; build.scratch.as_str() == place, "the place of {words:?}");
             }
-            Ok(_) => assert!(rt; false, "{words:?} are another command"),
+            Ok(_other) => assert!(rt; false, "{words:?} are another command"),
             Err(fault) => assert!(rt; false, "{words:?} are refused: {fault}"),
         }
     }
@@ -180,7 +180,7 @@ fn questions_about_a_cube_are_read(rt: HostRuntime) {
         let list = words_of(rt.alloc(), words).expect(&rt, "memory");
         match read_words(rt.alloc(), &list) {
             Ok(Command::Why(why)) => assert!(rt; why == ASKED, "the values of {words:?}"),
-            Ok(_) => assert!(rt; false, "{words:?} are another command"),
+            Ok(_other) => assert!(rt; false, "{words:?} are another command"),
             Err(fault) => assert!(rt; false, "{words:?} are refused: {fault}"),
         }
     }

@@ -1,11 +1,11 @@
 use Rattle.std.proofs.Common.{refl, sym, subst}
 use Rattle.dev_traits.specs.Change.{change_of, scratch_change_of}
-use Rattle.svo_top.specs.Causes.{UsageCauses, RangeCauses}
+use Rattle.svo_top.specs.Causes.{UsageCauses, RangeCauses, RefusalCauses}
 use Rattle.svo_top.specs.Endings.{status_of}
 use Rattle.svo_top.specs.Obeying.{Obeys}
 use Rattle.svo_top.specs.declared.outcome.Status.{Status}
 use Rattle.svo_top.specs.declared.reporting.Ending.TheVariants.{Stopped}
-use Rattle.svo_top.proofs.WordCauses.{usage_of_fault, range_of_fault, obeys_of_fault, obeys_of, usage_of, range_causes, input_kept, output_kept, scratch_kept}
+use Rattle.svo_top.proofs.WordCauses.{usage_of_fault, range_of_fault, refusal_of_fault, obeys_of_fault, obeys_of, usage_of, range_causes, refusal_causes, devices_kept}
 use Rattle.svo_top.proofs.running.carry_out.Goals as goal
 
 pub returns-in-Err-clause-usage : goal.returns-in-Err-clause-usage
@@ -18,53 +18,57 @@ returns-in-Err-clause-range g c =
     let P : Status → Type 0 = λ status. RangeCauses c.args.words.now status in
     subst P (sym c.status_of_fault.ensures) (range_of_fault c.args.words.now c.in-Err.fault c.in-Err.ensures)
 
+pub returns-in-Err-clause-refusal : goal.returns-in-Err-clause-refusal
+returns-in-Err-clause-refusal g c =
+    let P : Status → Type 0 = λ status. RefusalCauses c.args.words.now status in
+    subst P (sym c.status_of_fault.ensures) (refusal_of_fault c.args.words.now c.in-Err.fault c.in-Err.ensures)
+
 pub returns-in-Err-clause-obeys : goal.returns-in-Err-clause-obeys
 returns-in-Err-clause-obeys g c =
     let input = change_of g.I.ByteSource.rest g.I.ByteSource.faults c.args.input.now c.args.input.now in
     let out = change_of g.O.ByteSink.written g.O.ByteSink.faults c.args.out.now c.args.out.now in
     let scratch = scratch_change_of g.S.Scratch.told g.S.Scratch.asked g.S.Scratch.faults c.args.scratch.now c.args.scratch.now in
+    let nodes = change_of g.N.NodeStore.files g.N.NodeStore.faults c.args.nodes.now c.args.nodes.now in
     λ command means.
-    let P : Status → Type 0 = λ status. Obeys command input out scratch (Stopped status) in
-    subst P (sym c.status_of_fault.ensures) (obeys_of_fault c.args.words.now c.in-Err.fault c.in-Err.ensures input out scratch (refl, refl) (refl, refl) ((refl, refl), refl) command means)
+    let P : Status → Type 0 = λ status. Obeys command input out scratch nodes (Stopped status) in
+    subst P (sym c.status_of_fault.ensures) (obeys_of_fault c.args.words.now c.in-Err.fault c.in-Err.ensures input out scratch nodes (refl, refl) (refl, refl) ((refl, refl), refl) (refl, refl) command means)
 
 pub returns-in-Ok-clause-usage : goal.returns-in-Ok-clause-usage
 returns-in-Ok-clause-usage g c =
     let input = change_of g.I.ByteSource.rest g.I.ByteSource.faults c.args.input.now c.obey.new.input in
     let out = change_of g.O.ByteSink.written g.O.ByteSink.faults c.args.out.now c.obey.new.out in
     let scratch = scratch_change_of g.S.Scratch.told g.S.Scratch.asked g.S.Scratch.faults c.args.scratch.now c.obey.new.scratch in
-    usage_of c.args.words.now c.in-Ok.command c.in-Ok.ensures input out scratch (status_of c.obey.result) c.obey.ensures.stops
+    let nodes = change_of g.N.NodeStore.files g.N.NodeStore.faults c.args.nodes.now c.obey.new.nodes in
+    usage_of c.args.words.now c.in-Ok.command c.in-Ok.ensures input out scratch nodes (status_of c.obey.result) c.obey.ensures.stops
 
 pub returns-in-Ok-clause-range : goal.returns-in-Ok-clause-range
 returns-in-Ok-clause-range g c =
     let input = change_of g.I.ByteSource.rest g.I.ByteSource.faults c.args.input.now c.obey.new.input in
     let out = change_of g.O.ByteSink.written g.O.ByteSink.faults c.args.out.now c.obey.new.out in
     let scratch = scratch_change_of g.S.Scratch.told g.S.Scratch.asked g.S.Scratch.faults c.args.scratch.now c.obey.new.scratch in
-    range_causes c.args.words.now c.in-Ok.command c.in-Ok.ensures input out scratch (status_of c.obey.result) c.obey.ensures.stops
+    let nodes = change_of g.N.NodeStore.files g.N.NodeStore.faults c.args.nodes.now c.obey.new.nodes in
+    range_causes c.args.words.now c.in-Ok.command c.in-Ok.ensures input out scratch nodes (status_of c.obey.result) c.obey.ensures.stops
+
+pub returns-in-Ok-clause-refusal : goal.returns-in-Ok-clause-refusal
+returns-in-Ok-clause-refusal g c =
+    let input = change_of g.I.ByteSource.rest g.I.ByteSource.faults c.args.input.now c.obey.new.input in
+    let out = change_of g.O.ByteSink.written g.O.ByteSink.faults c.args.out.now c.obey.new.out in
+    let scratch = scratch_change_of g.S.Scratch.told g.S.Scratch.asked g.S.Scratch.faults c.args.scratch.now c.obey.new.scratch in
+    let nodes = change_of g.N.NodeStore.files g.N.NodeStore.faults c.args.nodes.now c.obey.new.nodes in
+    refusal_causes c.args.words.now c.in-Ok.command c.in-Ok.ensures input out scratch nodes (status_of c.obey.result) c.obey.ensures.stops
 
 pub returns-in-Ok-clause-obeys : goal.returns-in-Ok-clause-obeys
 returns-in-Ok-clause-obeys g c =
     let input = change_of g.I.ByteSource.rest g.I.ByteSource.faults c.args.input.now c.obey.new.input in
     let out = change_of g.O.ByteSink.written g.O.ByteSink.faults c.args.out.now c.obey.new.out in
     let scratch = scratch_change_of g.S.Scratch.told g.S.Scratch.asked g.S.Scratch.faults c.args.scratch.now c.obey.new.scratch in
-    obeys_of c.args.words.now c.in-Ok.command c.in-Ok.ensures input out scratch c.obey.result c.obey.ensures.obeys
+    let nodes = change_of g.N.NodeStore.files g.N.NodeStore.faults c.args.nodes.now c.obey.new.nodes in
+    obeys_of c.args.words.now c.in-Ok.command c.in-Ok.ensures input out scratch nodes c.obey.result c.obey.ensures.obeys
 
-pub returns-in-Ok-clause-keeps_input : goal.returns-in-Ok-clause-keeps_input
-returns-in-Ok-clause-keeps_input g c =
+pub returns-in-Ok-clause-keeps : goal.returns-in-Ok-clause-keeps
+returns-in-Ok-clause-keeps g c =
     let input = change_of g.I.ByteSource.rest g.I.ByteSource.faults c.args.input.now c.obey.new.input in
     let out = change_of g.O.ByteSink.written g.O.ByteSink.faults c.args.out.now c.obey.new.out in
     let scratch = scratch_change_of g.S.Scratch.told g.S.Scratch.asked g.S.Scratch.faults c.args.scratch.now c.obey.new.scratch in
-    input_kept c.args.words.now c.in-Ok.command c.in-Ok.ensures input out scratch (status_of c.obey.result) c.obey.ensures.stops
-
-pub returns-in-Ok-clause-keeps_output : goal.returns-in-Ok-clause-keeps_output
-returns-in-Ok-clause-keeps_output g c =
-    let input = change_of g.I.ByteSource.rest g.I.ByteSource.faults c.args.input.now c.obey.new.input in
-    let out = change_of g.O.ByteSink.written g.O.ByteSink.faults c.args.out.now c.obey.new.out in
-    let scratch = scratch_change_of g.S.Scratch.told g.S.Scratch.asked g.S.Scratch.faults c.args.scratch.now c.obey.new.scratch in
-    output_kept c.args.words.now c.in-Ok.command c.in-Ok.ensures input out scratch (status_of c.obey.result) c.obey.ensures.stops
-
-pub returns-in-Ok-clause-keeps_scratch : goal.returns-in-Ok-clause-keeps_scratch
-returns-in-Ok-clause-keeps_scratch g c =
-    let input = change_of g.I.ByteSource.rest g.I.ByteSource.faults c.args.input.now c.obey.new.input in
-    let out = change_of g.O.ByteSink.written g.O.ByteSink.faults c.args.out.now c.obey.new.out in
-    let scratch = scratch_change_of g.S.Scratch.told g.S.Scratch.asked g.S.Scratch.faults c.args.scratch.now c.obey.new.scratch in
-    scratch_kept c.args.words.now c.in-Ok.command c.in-Ok.ensures input out scratch (status_of c.obey.result) c.obey.ensures.stops
+    let nodes = change_of g.N.NodeStore.files g.N.NodeStore.faults c.args.nodes.now c.obey.new.nodes in
+    devices_kept c.args.words.now c.in-Ok.command c.in-Ok.ensures input out scratch nodes (status_of c.obey.result) c.obey.ensures.stops

@@ -1,0 +1,466 @@
+-- What a question answers of a loaded file, from what its parts gave.
+use Rattle.std.proofs.Common.{◌≡◌, ◌≢◌, ◌⊎◌, ℕ, suc, ◌*◌, ◌^◌, ◌≤◌, ◌<◌, Bool, true, false, List, [], ◌++◌, length, Option, None, Some, Result, Ok, Err, refl, sym, ap, subst, ◌∙◌, inl, inr, arith}
+use Rattle.std.specs.Prelude.{◌&&◌, if◌then◌else◌, nat_lt, ℤ, pos, int_le, unsigned_abs, IfSome, drop}
+use Rattle.std.specs.Result.{result_err}
+use Rattle.std.proofs.lemmas.Bool.{and_parts}
+use Rattle.std.proofs.lemmas.Bool.Decides.{Decides-ltb}
+use Rattle.std.proofs.lemmas.List.{take_all, append-nil}
+use Rattle.std.specs.Io.KnownBytes.{append_known}
+use Rattle.svo_base.specs.GridShape.{GridShape}
+use Rattle.dev_traits.specs.Change.{Change, IsFaultless, IsFaulted, IsKept}
+use Rattle.dev_traits.specs.Faults.{Rose, DidNotRise}
+use Rattle.octree_specs.specs.Cells.{Cell}
+use Rattle.octree_specs.specs.Checking.{refused_in}
+use Rattle.octree_specs.specs.Formats.{StandFor, file_words}
+use Rattle.octree_laws.specs.Laws.{StandForMany}
+use Rattle.octree_laws.proofs.Images.{at_depth}
+use Rattle.octree_laws.proofs.Verdicts.{stand_if_accepted, accepted_if_stand}
+use Rattle.node_file.specs.FileView.{FileView, IsFileView}
+use Rattle.node_check.specs.Stops.{Puts, HasStopCause}
+use Rattle.node_check.specs.declared.stops.AnswerStop.{AnswerStop}
+use Rattle.node_check.specs.declared.stops.AnswerStop.TheVariants.{WriteFault, Walk}
+use Rattle.node_check.specs.declared.walking.WalkFault.TheVariants as walk
+use Rattle.svo_top.specs.Answering.{bar, check_line}
+use Rattle.ply_reader.specs.WholeMeshes.{IsReadTo}
+use Rattle.ray_fraction.specs.RayShape.{RayShape}
+use Rattle.ray_walk.specs.Answers.{TellsCells}
+use Rattle.ray_answers.specs.Casting.{EndsSo, HasAnswered, HasRead, HasRayCause, RefusesNoWord, PutsSomeAnswers}
+use Rattle.ray_answers.specs.RayTexts.{rays_of}
+use Rattle.ray_answers.specs.declared.stops.RayStop.{RayStop}
+use Rattle.ray_answers.specs.declared.stops.RayStop.TheVariants as stop
+use Rattle.svo_top.specs.Rays.{Casts, ReadsRays, AnswersRays, status_of_end, status_of_rays}
+use Rattle.svo_top.specs.Asking.{MayEnd, Answers, Works, Admits, AsksFile, Ends, EndsAtOnce, NeedsGrid}
+use Rattle.slice_view.specs.Cameras.{CameraShape}
+use Rattle.slice_view.specs.Pictures.{pgm_header}
+use Rattle.slice_view.specs.Views.{PutsView}
+use Rattle.slice_view.proofs.ViewPuts.{greys_none}
+use Rattle.slice_view.specs.declared.axes.Axis.{Axis}
+use Rattle.svo_top.specs.Picturing.{Views}
+use Rattle.svo_top.specs.Loaded.{status_of_answer}
+use Rattle.svo_top.specs.NodeFiles.{KeepsCells, refused_of}
+use Rattle.svo_top.specs.declared.asking.Question.{Question}
+use Rattle.svo_top.specs.declared.asking.Question.TheVariants as question
+use Rattle.svo_top.specs.declared.outcome.Status.{Status}
+use Rattle.svo_top.specs.declared.outcome.Status.TheVariants.{Done, Usage, Input, Range, Device, Refused, Memory}
+use Rattle.svo_top.specs.declared.outcome.RangeFault.{RangeFault}
+use Rattle.svo_top.specs.declared.outcome.RangeFault.TheVariants.{Ray, Slice as BadSlice}
+use Rattle.svo_top.specs.declared.outcome.NodeRefusal.{NodeRefusal}
+use Rattle.svo_top.specs.declared.outcome.NodeRefusal.TheVariants.{NoFile, NotNodes, Number}
+use Rattle.svo_top.specs.declared.outcome.Device.TheVariants.{Read, Scratch, Write, Nodes}
+
+-- ---- a text that is put out
+
+-- a count that rose did not stay
+pub clash : (before after : ℕ) → Rose before after → DidNotRise before after → ⊥
+clash before after rose quiet = absurd (omega (arith, rose, quiet))
+
+module _ {T : Type 0} (text : List ℕ) (out : Change) (before after : ℕ) where
+  pub answers_of : (result : Result T AnswerStop) → Puts out.before out.after text result → HasStopCause out.faults_before out.faults_after before after result
+      → Answers text out before after (status_of_answer result)
+  answers_of (Ok done) puts cause = record {
+    done = λ e. puts;
+    front = (length text, rw (take_all (length text) text (omega arith)) puts);
+    complete = λ a b. inl refl;
+  }
+  answers_of (Err WriteFault) puts cause = record {
+    done = λ e. absurd cc;
+    front = puts;
+    complete = λ quiet b. absurd (clash out.faults_before out.faults_after (cause.written refl) quiet);
+  }
+  answers_of (Err (Walk walk.Failed)) puts cause = record {
+    done = λ e. absurd cc;
+    front = puts;
+    complete = λ a quiet. absurd (clash before after (cause.read refl) quiet);
+  }
+  answers_of (Err (Walk (walk.Refused number word))) puts cause = absurd puts
+
+pub sure_of : {T : Type 0} (text : List ℕ) (out : Change) (result : Result T AnswerStop) → Puts out.before out.after text result
+    → (refusal : NodeRefusal) → status_of_answer result ≡ Refused refusal → ⊥
+sure_of text out (Ok done) puts refusal e = cc
+sure_of text out (Err WriteFault) puts refusal e = cc
+sure_of text out (Err (Walk walk.Failed)) puts refusal e = cc
+sure_of text out (Err (Walk (walk.Refused number word))) puts refusal e = puts
+
+-- a view that is put out, or stopped
+pub views_of : {T : Type 0} (camera : CameraShape) (grid : GridShape) (cells : List Cell) (out : Change) (before after : ℕ) (result : Result T AnswerStop) → PutsView camera grid cells out.before out.after result
+    → HasStopCause out.faults_before out.faults_after before after result → Views camera grid cells out before after (status_of_answer result)
+views_of camera grid cells out before after (Ok done) puts cause = record {
+  done = λ e. puts;
+  front = (puts.0, (camera.width * camera.height, omega arith, puts.1), (length puts.0, rw (take_all (length puts.0) puts.0 (omega arith)) puts.2));
+  complete = λ a b. inl refl;
+}
+views_of camera grid cells out before after (Err WriteFault) puts cause = record { done = λ e. absurd cc; front = puts; complete = λ quiet b. absurd (clash out.faults_before out.faults_after (cause.written refl) quiet) }
+views_of camera grid cells out before after (Err (Walk walk.Failed)) puts cause = record { done = λ e. absurd cc; front = puts; complete = λ a quiet. absurd (clash before after (cause.read refl) quiet) }
+views_of camera grid cells out before after (Err (Walk (walk.Refused number word))) puts cause = absurd puts
+
+pub sure_of_view : {T : Type 0} (camera : CameraShape) (grid : GridShape) (cells : List Cell) (out : Change) (result : Result T AnswerStop) → PutsView camera grid cells out.before out.after result
+    → (refusal : NodeRefusal) → status_of_answer result ≡ Refused refusal → ⊥
+sure_of_view camera grid cells out (Ok done) puts refusal e = cc
+sure_of_view camera grid cells out (Err WriteFault) puts refusal e = cc
+sure_of_view camera grid cells out (Err (Walk walk.Failed)) puts refusal e = cc
+sure_of_view camera grid cells out (Err (Walk (walk.Refused number word))) puts refusal e = puts
+
+-- a layer that is not barred is one of the grid
+passes : (b : Bool) → (if b then None else Some BadSlice) ≡ None → b ≡ true
+passes true e = refl
+passes false e = absurd cc
+
+pub layer_below : (axis : Axis) (at : ℤ) (depth : ℕ) → bar (question.Slice axis at) depth ≡ None → unsigned_abs at < 2 ^ depth
+layer_below axis at depth free =
+    (Decides-ltb (unsigned_abs at) (2 ^ depth)).0 (and_parts (int_le (pos 0) at) (nat_lt (unsigned_abs at) (2 ^ depth)) (passes (int_le (pos 0) at && nat_lt (unsigned_abs at) (2 ^ depth)) free)).1
+
+-- the numbers of a node file are those of its words and cells
+pub numbers_are : (file : FileView) (cells : List Cell) → IsFileView file → KeepsCells file cells
+    → check_line file.grid.depth file.totals.records file.totals.cells ≡ check_line file.grid.depth (length (file_words file.format file.grid.depth cells)) (length cells)
+numbers_are file cells framed keeps =
+    let long : length keeps.words ≡ file.totals.records = told_long file.words keeps.words file.totals.records keeps.told framed.told in
+    (λ i. check_line file.grid.depth ((sym long ∙ ap length keeps.stand.words_are) i) (sym keeps.count i))
+  where
+    told_long : (told : Option (List ℕ)) (words : List ℕ) (records : ℕ) → told ≡ Some words → IfSome told (λ words. length words ≡ records) → length words ≡ records
+    told_long told words records is long = subst (λ o. IfSome o (λ words. length words ≡ records)) is long
+
+-- what is said of told words holds of a file that keeps cells
+pub kept_told : (file : FileView) (P : List Cell → Type 0) → IfSome file.words (λ words. (cells : List Cell) → StandFor file.format file.grid.depth words cells → P cells)
+    → (cells : List Cell) → KeepsCells file cells → P cells
+kept_told file P told cells keeps =
+    subst (λ o. IfSome o (λ words. (cells : List Cell) → StandFor file.format file.grid.depth words cells → P cells)) keeps.told told cells keeps.stand
+
+-- ---- rays
+
+status_by_end : {T : Type 0} (result : Result T RayStop) → status_of_rays result ≡ status_of_end (result_err result)
+status_by_end (Ok done) = refl
+status_by_end (Err stop) = refl
+
+rays_put : {T : Type 0} (grid : GridShape) (cells : List Cell) (rays : List RayShape) (out : Change) (result : Result T RayStop) → HasAnswered grid cells rays out.before out.after result
+    → AnswersRays grid cells rays out (status_of_rays result)
+rays_put grid cells rays out (Ok done) answered = answered
+rays_put grid cells rays out (Err (stop.BadRay place)) answered = answered
+rays_put grid cells rays out (Err (stop.LineTooLong place)) answered = answered
+rays_put grid cells rays out (Err (stop.TooLong place)) answered = answered
+rays_put grid cells rays out (Err (stop.Range place)) answered = answered
+rays_put grid cells rays out (Err stop.ReadFault) answered = answered
+rays_put grid cells rays out (Err stop.WriteFault) answered = answered
+rays_put grid cells rays out (Err (stop.Walk walk.Failed)) answered = answered
+rays_put grid cells rays out (Err (stop.Walk (walk.Refused number word))) answered = absurd answered
+
+pub casts_of : {T : Type 0} (file : FileView) (input out : Change) (before after : ℕ) (result : Result T RayStop)
+    → ((text : List ℕ) (cells : List Cell) → input.before ≡ Some text → TellsCells file cells → HasAnswered file.grid cells (rays_of text).rays out.before out.after result)
+    → ((text : List ℕ) (cells : List Cell) → input.before ≡ Some text → TellsCells file cells → IsFaultless input → IsFaultless out → DidNotRise before after → result_err result ≡ (rays_of text).end)
+    → (cells : List Cell) → KeepsCells file cells → Casts file.grid cells input out before after (status_of_rays result)
+casts_of file input out before after result answered complete cells keeps =
+    let tells : TellsCells file cells = record { words = keeps.words; told = keeps.told; stand = keeps.stand } in
+    record {
+      answered = λ text told. rays_put file.grid cells (rays_of text).rays out result (answered text cells told tells);
+      complete = λ text told a b c. inl (status_by_end result ∙ ap status_of_end (complete text cells told tells a b c));
+    }
+
+pub reads_of : {T : Type 0} (input : Change) (result : Result T RayStop)
+    → ((text : List ℕ) → input.before ≡ Some text → EndsSo (rays_of text).end result) → ((text : List ℕ) → input.before ≡ Some text → HasRead text input.after result)
+    → ReadsRays input (status_of_rays result)
+reads_of input (Ok done) ends read = λ text told. (ends text told, read text told)
+reads_of input (Err (stop.BadRay place)) ends read = λ text told. (ends text told, to_place text place (read text told))
+  where
+    to_place : (text : List ℕ) (place : ℕ) → (count : ℕ) × (place ≤ count) × (input.after ≡ Some (drop count text)) → IsReadTo place text input.after
+    to_place text place read = record { count = read.0; reached = read.1; behind = read.2 }
+reads_of input (Err (stop.LineTooLong place)) ends read = λ text told. (ends text told, record { count = (read text told).0; reached = (read text told).1; behind = (read text told).2 })
+reads_of input (Err (stop.TooLong place)) ends read = λ text told. (ends text told, record { count = (read text told).0; reached = (read text told).1; behind = (read text told).2 })
+reads_of input (Err (stop.Range place)) ends read = λ text told. (ends text told, record { count = (read text told).0; reached = (read text told).1; behind = (read text told).2 })
+reads_of input (Err stop.ReadFault) ends read = λ text told. tt
+reads_of input (Err stop.WriteFault) ends read = λ text told. tt
+reads_of input (Err (stop.Walk walk.Failed)) ends read = λ text told. tt
+reads_of input (Err (stop.Walk (walk.Refused number word))) ends read = λ text told. tt
+
+-- rays are no range of the grid
+pub unbarred_rays : {T : Type 0} (result : Result T RayStop) (fault : RangeFault) → NeedsGrid fault → status_of_rays result ≡ Range fault → ⊥
+unbarred_rays (Ok done) fault needs e = cc
+unbarred_rays (Err (stop.BadRay place)) fault needs e = cc
+unbarred_rays (Err (stop.LineTooLong place)) fault needs e = cc
+unbarred_rays (Err (stop.TooLong place)) fault needs e = cc
+unbarred_rays (Err (stop.Range place)) fault needs e = let same : Ray place ≡ fault = cc in subst NeedsGrid (sym same) needs
+unbarred_rays (Err stop.ReadFault) fault needs e = cc
+unbarred_rays (Err stop.WriteFault) fault needs e = cc
+unbarred_rays (Err (stop.Walk walk.Failed)) fault needs e = cc
+unbarred_rays (Err (stop.Walk (walk.Refused number word))) fault needs e = cc
+
+-- how a question about rays ends
+pub rays_end : {T : Type 0} (input out : Change) (before after : ℕ) (result : Result T RayStop)
+    → ((text : List ℕ) → input.before ≡ Some text → EndsSo (rays_of text).end result) → ((text : List ℕ) → input.before ≡ Some text → HasRead text input.after result)
+    → HasRayCause input.faults_before input.faults_after out.faults_before out.faults_after before after result
+    → Ends question.Cast input out before after (status_of_rays result)
+rays_end input out before after result ends read cause = record {
+  may = may_of result;
+  reads = reads_of input result ends read;
+  read = λ e. read_of result cause e;
+  written = λ e. written_of result cause e;
+  looked = λ e. looked_of result cause e;
+  memory = λ e. absurd (no_memory result e);
+  barred = λ fault needs e. absurd (unbarred_rays result fault needs e);
+}
+  where
+    may_of : {T : Type 0} (result : Result T RayStop) → MayEnd question.Cast (status_of_rays result)
+    may_of (Ok done) = tt
+    may_of (Err (stop.BadRay place)) = tt
+    may_of (Err (stop.LineTooLong place)) = tt
+    may_of (Err (stop.TooLong place)) = tt
+    may_of (Err (stop.Range place)) = tt
+    may_of (Err stop.ReadFault) = tt
+    may_of (Err stop.WriteFault) = tt
+    may_of (Err (stop.Walk walk.Failed)) = tt
+    may_of (Err (stop.Walk (walk.Refused number word))) = tt
+
+    Cause : {T : Type 0} → Result T RayStop → Type 0
+    Cause result = HasRayCause input.faults_before input.faults_after out.faults_before out.faults_after before after result
+
+    read_of : {T : Type 0} (result : Result T RayStop) → Cause result → status_of_rays result ≡ Device Read → IsFaulted input
+    read_of (Ok done) cause e = absurd cc
+    read_of (Err (stop.BadRay place)) cause e = absurd cc
+    read_of (Err (stop.LineTooLong place)) cause e = absurd cc
+    read_of (Err (stop.TooLong place)) cause e = absurd cc
+    read_of (Err (stop.Range place)) cause e = absurd cc
+    read_of (Err stop.ReadFault) cause e = cause.input refl
+    read_of (Err stop.WriteFault) cause e = absurd cc
+    read_of (Err (stop.Walk walk.Failed)) cause e = absurd cc
+    read_of (Err (stop.Walk (walk.Refused number word))) cause e = absurd cc
+
+    written_of : {T : Type 0} (result : Result T RayStop) → Cause result → status_of_rays result ≡ Device Write → IsFaulted out
+    written_of (Ok done) cause e = absurd cc
+    written_of (Err (stop.BadRay place)) cause e = absurd cc
+    written_of (Err (stop.LineTooLong place)) cause e = absurd cc
+    written_of (Err (stop.TooLong place)) cause e = absurd cc
+    written_of (Err (stop.Range place)) cause e = absurd cc
+    written_of (Err stop.ReadFault) cause e = absurd cc
+    written_of (Err stop.WriteFault) cause e = cause.out refl
+    written_of (Err (stop.Walk walk.Failed)) cause e = absurd cc
+    written_of (Err (stop.Walk (walk.Refused number word))) cause e = absurd cc
+
+    looked_of : {T : Type 0} (result : Result T RayStop) → Cause result → status_of_rays result ≡ Device Nodes → Rose before after
+    looked_of (Ok done) cause e = absurd cc
+    looked_of (Err (stop.BadRay place)) cause e = absurd cc
+    looked_of (Err (stop.LineTooLong place)) cause e = absurd cc
+    looked_of (Err (stop.TooLong place)) cause e = absurd cc
+    looked_of (Err (stop.Range place)) cause e = absurd cc
+    looked_of (Err stop.ReadFault) cause e = absurd cc
+    looked_of (Err stop.WriteFault) cause e = absurd cc
+    looked_of (Err (stop.Walk walk.Failed)) cause e = cause.nodes refl
+    looked_of (Err (stop.Walk (walk.Refused number word))) cause e = absurd cc
+
+    no_memory : {T : Type 0} (result : Result T RayStop) → status_of_rays result ≡ Memory → ⊥
+    no_memory (Ok done) e = cc
+    no_memory (Err (stop.BadRay place)) e = cc
+    no_memory (Err (stop.LineTooLong place)) e = cc
+    no_memory (Err (stop.TooLong place)) e = cc
+    no_memory (Err (stop.Range place)) e = cc
+    no_memory (Err stop.ReadFault) e = cc
+    no_memory (Err stop.WriteFault) e = cc
+    no_memory (Err (stop.Walk walk.Failed)) e = cc
+    no_memory (Err (stop.Walk (walk.Refused number word))) e = cc
+
+-- no word is refused where none is
+pub sure_rays : {T : Type 0} (result : Result T RayStop) → RefusesNoWord result → (refusal : NodeRefusal) → status_of_rays result ≡ Refused refusal → ⊥
+sure_rays (Ok done) sure refusal e = cc
+sure_rays (Err (stop.BadRay place)) sure refusal e = cc
+sure_rays (Err (stop.LineTooLong place)) sure refusal e = cc
+sure_rays (Err (stop.TooLong place)) sure refusal e = cc
+sure_rays (Err (stop.Range place)) sure refusal e = cc
+sure_rays (Err stop.ReadFault) sure refusal e = cc
+sure_rays (Err stop.WriteFault) sure refusal e = cc
+sure_rays (Err (stop.Walk walk.Failed)) sure refusal e = cc
+sure_rays (Err (stop.Walk (walk.Refused number word))) sure refusal e = sure
+
+-- ---- accepted words
+
+at_some : {T : Type 0} (o : Option T) (x : T) (P : T → Type 0) → o ≡ Some x → IfSome o P → P x
+at_some o x P is holds = subst (λ p. IfSome p P) is holds
+
+not_two : {T : Type 0} (o : Option T) (x : T) → o ≡ None → o ≡ Some x → ⊥
+not_two o x none some = let both : ◌≡◌ {A = Option _} None (Some x) = sym none ∙ some in cc
+
+some_words : (file : FileView) (words : List ℕ) → IsFileView file → file.words ≡ Some words → 0 < length words
+some_words file words framed told =
+    let long : length words ≡ file.totals.records = at_some file.words words (λ words. length words ≡ file.totals.records) told framed.told in
+    omega (arith, framed.some, long)
+
+-- words that the checker accepts are those of some cells
+pub keeps_if_accepted : (file : FileView) (words : List ℕ) → IsFileView file → file.words ≡ Some words → refused_of file words ≡ None → (cells : List Cell) × KeepsCells file cells
+keeps_if_accepted file words framed told accepted =
+    let at : (levels : ℕ) × (file.grid.depth ≡ suc levels) = at_depth file.grid.depth framed.limits.halved in
+    let there : refused_in file.format (suc at.0) words file.totals.cells ≡ None = subst (λ d. refused_in file.format d words file.totals.cells ≡ None) at.1 accepted in
+    let many : StandForMany file.format (suc at.0) words file.totals.cells = stand_if_accepted file.format at.0 file.totals.cells words framed.known (some_words file words framed told) there in
+    (many.cells, record { words = words; told = told; stand = subst (λ d. StandFor file.format d words many.cells) (sym at.1) many.stand; count = many.count_is })
+
+-- and those of cells are accepted
+pub accepted_if_keeps : (file : FileView) (cells : List Cell) → IsFileView file → (keeps : KeepsCells file cells) → refused_of file keeps.words ≡ None
+accepted_if_keeps file cells framed keeps =
+    let at : (levels : ℕ) × (file.grid.depth ≡ suc levels) = at_depth file.grid.depth framed.limits.halved in
+    let there : StandFor file.format (suc at.0) keeps.words cells = subst (λ d. StandFor file.format d keeps.words cells) at.1 keeps.stand in
+    let accepted : refused_in file.format (suc at.0) keeps.words (length cells) ≡ None = accepted_if_stand file.format at.0 keeps.words cells there in
+    subst (λ n. refused_in file.format file.grid.depth keeps.words n ≡ None) keeps.count
+    (subst (λ d. refused_in file.format d keeps.words (length cells) ≡ None) (sym at.1) accepted)
+
+-- ---- a store that had counted before
+
+-- a count that did not rise in the end did not rise later
+pub later_quiet : (before between after : ℕ) → before ≤ between → between ≤ after → DidNotRise before after → DidNotRise between after
+later_quiet before between after early late quiet = (omega (arith, early, quiet.0), quiet.1)
+
+answers_later : (text : List ℕ) (out : Change) (before between after : ℕ) (status : Status) → before ≤ between → between ≤ after → Answers text out between after status → Answers text out before after status
+answers_later text out before between after status early late answers = record {
+  done = answers.done;
+  front = answers.front;
+  complete = λ written quiet. answers.complete written (later_quiet before between after early late quiet);
+}
+
+pub works_later : (question : Question) (format : ℕ) (grid : GridShape) (cells : List Cell) (input out : Change) (before between after : ℕ) (status : Status) → before ≤ between → between ≤ after
+    → Works question format grid cells input out between after status → Works question format grid cells input out before after status
+works_later question.Check format grid cells input out before between after status early late works = answers_later _ out before between after status early late works
+works_later (question.Has code) format grid cells input out before between after status early late works = answers_later _ out before between after status early late works
+works_later question.Cells format grid cells input out before between after status early late works = answers_later _ out before between after status early late works
+works_later question.Lift format grid cells input out before between after status early late works = answers_later _ out before between after status early late works
+works_later (question.Slice axis at) format grid cells input out before between after status early late works = answers_later _ out before between after status early late works
+works_later (question.View camera) format grid cells input out before between after status early late works = record {
+  done = works.done;
+  front = works.front;
+  complete = λ written quiet. works.complete written (later_quiet before between after early late quiet);
+}
+works_later question.Cast format grid cells input out before between after status early late works = record {
+  answered = works.answered;
+  complete = λ text told read written quiet. works.complete text told read written (later_quiet before between after early late quiet);
+}
+
+-- ---- a question that was stopped before its work
+
+nothing_put : (told : Option (List ℕ)) → append_known told [] ≡ told
+nothing_put None = refl
+nothing_put (Some bytes) = ap Some (append-nil bytes)
+
+-- nothing was put out, and the run is not done
+module _ (out : Change) (before after : ℕ) (unwritten : IsKept out) where
+  unanswered : (text : List ℕ) (status : Status) → (status ≡ Done → ⊥) → (IsFaultless out → DidNotRise before after → status ≡ Memory) → Answers text out before after status
+  unanswered text status undone memory = record {
+    done = λ e. absurd (undone e);
+    front = (0, unwritten.0 ∙ sym (nothing_put out.before));
+    complete = λ a b. inr (memory a b);
+  }
+
+  none_answered : (grid : GridShape) (cells : List Cell) (rays : List RayShape) → PutsSomeAnswers grid cells rays out.before out.after
+  none_answered grid cells rays = record { first = []; later = rays; parts = refl; answers = []; are = refl; front = (0, unwritten.0 ∙ sym (nothing_put out.before)) }
+
+  -- of a view nothing is a beginning
+  unshown : (camera : CameraShape) (grid : GridShape) (cells : List Cell) (status : Status) → (status ≡ Done → ⊥) → (DidNotRise before after → status ≡ Memory) → Views camera grid cells out before after status
+  unshown camera grid cells status undone memory = record {
+    done = λ e. absurd (undone e);
+    front = (
+      pgm_header camera.width camera.height ++ [],
+      (0, omega arith, record { greys = []; counted = refl; shown = greys_none camera grid cells 0; picture_is = refl }),
+      (0, unwritten.0 ∙ sym (nothing_put out.before)),
+    );
+    complete = λ a quiet. inr (memory quiet);
+  }
+
+  pub works_failed : (question : Question) (format : ℕ) (grid : GridShape) (cells : List Cell) (input : Change) → IsKept input → Rose before after → Works question format grid cells input out before after (Device Nodes)
+  works_failed question.Check format grid cells input unread rose = unanswered _ (Device Nodes) (λ e. cc) (λ a quiet. absurd (clash before after rose quiet))
+  works_failed (question.Has code) format grid cells input unread rose = unanswered _ (Device Nodes) (λ e. cc) (λ a quiet. absurd (clash before after rose quiet))
+  works_failed question.Cells format grid cells input unread rose = unanswered _ (Device Nodes) (λ e. cc) (λ a quiet. absurd (clash before after rose quiet))
+  works_failed question.Lift format grid cells input unread rose = unanswered _ (Device Nodes) (λ e. cc) (λ a quiet. absurd (clash before after rose quiet))
+  works_failed (question.Slice axis at) format grid cells input unread rose = unanswered _ (Device Nodes) (λ e. cc) (λ a quiet. absurd (clash before after rose quiet))
+  works_failed (question.View camera) format grid cells input unread rose = unshown camera grid cells (Device Nodes) (λ e. cc) (λ quiet. absurd (clash before after rose quiet))
+  works_failed question.Cast format grid cells input unread rose = record {
+    answered = λ text told. none_answered grid cells (rays_of text).rays;
+    complete = λ text told a b quiet. absurd (clash before after rose quiet);
+  }
+
+  pub works_memory : (question : Question) (format : ℕ) (grid : GridShape) (cells : List Cell) (input : Change) → IsKept input → Works question format grid cells input out before after Memory
+  works_memory question.Check format grid cells input unread = unanswered _ Memory (λ e. cc) (λ a b. refl)
+  works_memory (question.Has code) format grid cells input unread = unanswered _ Memory (λ e. cc) (λ a b. refl)
+  works_memory question.Cells format grid cells input unread = unanswered _ Memory (λ e. cc) (λ a b. refl)
+  works_memory question.Lift format grid cells input unread = unanswered _ Memory (λ e. cc) (λ a b. refl)
+  works_memory (question.Slice axis at) format grid cells input unread = unanswered _ Memory (λ e. cc) (λ a b. refl)
+  works_memory (question.View camera) format grid cells input unread = unshown camera grid cells Memory (λ e. cc) (λ quiet. refl)
+  works_memory question.Cast format grid cells input unread = record { answered = λ text told. unwritten; complete = λ text told a b c. inr refl }
+
+-- ---- a file that was not admitted
+
+module _ (question : Question) (file : FileView) (framed : IsFileView file) (input out : Change) (before after : ℕ) (unread : IsKept input) (unwritten : IsKept out) where
+  at_once : (wanted status : Status) → (DidNotRise before after → (status ≡ wanted) ⊎ (status ≡ Memory)) → EndsAtOnce wanted input out before after status
+  at_once wanted status is = record { unread = unread; unwritten = unwritten; is = is }
+
+  -- the store failed
+  failed_file : Rose before after → AsksFile question file input out before after (Device Nodes)
+  failed_file rose = record {
+    refused = λ words refusal told e. absurd cc;
+    refuses = λ words number told is. at_once (Refused (Number number)) (Device Nodes) (λ quiet. absurd (clash before after rose quiet));
+    barred = λ words fault told needs e. absurd cc;
+    bars = λ cells fault keeps is. at_once (Range fault) (Device Nodes) (λ quiet. absurd (clash before after rose quiet));
+    works = λ cells keeps free. works_failed out before after unwritten question file.format file.grid cells input unread rose;
+  }
+
+  -- the checker refused a word
+  refused_file : (number : ℕ) → IfSome file.words (λ words. refused_of file words ≡ Some number) → AsksFile question file input out before after (Refused (Number number))
+  refused_file number refused = record {
+    refused = λ words refusal told e. (number, same_refusal refusal e, named words told);
+    refuses = λ words other told is. at_once (Refused (Number other)) (Refused (Number number)) (λ quiet. inl (ap (λ n. Refused (Number n)) (one_value number other (sym (named words told) ∙ is))));
+    barred = λ words fault told needs e. absurd cc;
+    bars = λ cells fault keeps is. absurd (kept cells keeps);
+    works = λ cells keeps free. absurd (kept cells keeps);
+  }
+    where
+      named : (words : List ℕ) → file.words ≡ Some words → refused_of file words ≡ Some number
+      named words told = at_some file.words words (λ words. refused_of file words ≡ Some number) told refused
+
+      kept : (cells : List Cell) → KeepsCells file cells → ⊥
+      kept cells keeps = not_two (refused_of file keeps.words) number (accepted_if_keeps file cells framed keeps) (named keeps.words keeps.told)
+
+      one_value : (x y : ℕ) → Some x ≡ Some y → x ≡ y
+      one_value x y same = cc
+
+      same_refusal : (refusal : NodeRefusal) → Refused (Number number) ≡ Refused refusal → refusal ≡ Number number
+      same_refusal refusal e = cc
+
+  -- a number is out of its grid
+  barred_file : (fault : RangeFault) → IfSome file.words (λ words. refused_of file words ≡ None) → bar question file.grid.depth ≡ Some fault → AsksFile question file input out before after (Range fault)
+  barred_file fault accepted barred = record {
+    refused = λ words refusal told e. absurd cc;
+    refuses = λ words number told is. absurd (not_two (refused_of file words) number (at_some file.words words (λ words. refused_of file words ≡ None) told accepted) is);
+    barred = λ words other told needs e. (at_some file.words words (λ words. refused_of file words ≡ None) told accepted, barred ∙ ap Some (same_fault other e));
+    bars = λ cells other keeps is. at_once (Range other) (Range fault) (λ quiet. inl (ap Range (one_fault other (sym barred ∙ is))));
+    works = λ cells keeps free. absurd (not_two (bar question file.grid.depth) fault free barred);
+  }
+    where
+      one_fault : (other : RangeFault) → Some fault ≡ Some other → fault ≡ other
+      one_fault other same = cc
+
+      same_fault : (other : RangeFault) → Range fault ≡ Range other → fault ≡ other
+      same_fault other same = cc
+
+  pub not_admitted : (status : Status) → Admits {T = Unit {0}} question file before after (Err status) → AsksFile question file input out before after status
+  not_admitted Done admits = absurd admits
+  not_admitted (Usage kind) admits = absurd admits
+  not_admitted (Input kind place) admits = absurd admits
+  not_admitted (Range fault) admits = barred_file fault admits.0 admits.1
+  not_admitted (Device Read) admits = absurd admits
+  not_admitted (Device Scratch) admits = absurd admits
+  not_admitted (Device Write) admits = absurd admits
+  not_admitted (Device Nodes) admits = failed_file admits
+  not_admitted (Refused NoFile) admits = absurd admits
+  not_admitted (Refused NotNodes) admits = absurd admits
+  not_admitted (Refused (Number number)) admits = refused_file number admits
+  not_admitted Memory admits = absurd admits
+
+-- ---- a file that was admitted
+
+module _ (question : Question) (file : FileView) (framed : IsFileView file) (input out : Change) (before between after : ℕ) (status : Status) where
+  pub admitted : before ≤ between → between ≤ after → IfSome file.words (λ words. refused_of file words ≡ None) → bar question file.grid.depth ≡ None
+      → ((cells : List Cell) → KeepsCells file cells → Works question file.format file.grid cells input out between after status)
+      → ((cells : List Cell) → KeepsCells file cells → (refusal : NodeRefusal) → status ≡ Refused refusal → ⊥)
+      → ((fault : RangeFault) → NeedsGrid fault → status ≡ Range fault → ⊥)
+      → AsksFile question file input out before after status
+  admitted early late accepted free works sure unbarred = record {
+    refused = λ words refusal told e. let keeps = kept words told in absurd (sure keeps.0 keeps.1 refusal e);
+    refuses = λ words number told is. absurd (not_two (refused_of file words) number (at_some file.words words (λ words. refused_of file words ≡ None) told accepted) is);
+    barred = λ words fault told needs e. absurd (unbarred fault needs e);
+    bars = λ cells fault keeps is. absurd (not_two (bar question file.grid.depth) fault free is);
+    works = λ cells keeps none. works_later question file.format file.grid cells input out before between after status early late (works cells keeps);
+  }
+    where
+      kept : (words : List ℕ) → file.words ≡ Some words → (cells : List Cell) × KeepsCells file cells
+      kept words told = keeps_if_accepted file words framed told (at_some file.words words (λ words. refused_of file words ≡ None) told accepted)

@@ -1,0 +1,37 @@
+-- The answers to questions about node files.
+use Rattle.std.specs.Prelude.{ℕ, ◌^◌, Bool, cond, if◌then◌else◌, ◌&&◌, nat_lt, is_some, ℤ, pos, int_le, unsigned_abs, List, ◌++◌, length, codes, Option, None, Some}
+use Rattle.std.specs.Fmt.{decimal}
+use Rattle.svo_base.specs.GridShape.{GridShape}
+use Rattle.octree_specs.specs.Cells.{Cell}
+use Rattle.octree_specs.specs.Formats.{file_words}
+use Rattle.octree_specs.specs.OctreeFile.{image_of}
+use Rattle.node_check.specs.Walks.{face_at}
+use Rattle.svo_top.specs.declared.outcome.RangeFault.{RangeFault}
+use Rattle.svo_top.specs.declared.outcome.RangeFault.TheVariants.{Code, Slice as BadSlice}
+use Rattle.svo_top.specs.Picturing.{is_layer}
+use Rattle.svo_top.specs.declared.asking.Question.{Question}
+use Rattle.svo_top.specs.declared.asking.Question.TheVariants.{Check, Has, Cells, Lift, Cast, Slice, View}
+
+-- ---- what needs the file's grid
+
+-- a code is that of a cell of a grid of this depth
+abbrev pub is_code : ℤ → ℕ → Bool
+is_code code depth = int_le (pos 0) code && nat_lt (unsigned_abs code) (8 ^ depth)
+
+-- the first range that needs the grid and that a number of the question is out of
+abbrev pub bar : Question → ℕ → Option RangeFault
+bar Check depth = None
+bar (Has code) depth = if is_code code depth then None else Some Code
+bar Cells depth = None
+bar Lift depth = None
+bar Cast depth = None
+bar (Slice axis at) depth = if is_layer at depth then None else Some BadSlice
+bar (View camera) depth = None
+
+-- ---- lines
+
+unfoldable pub check_line : ℕ → ℕ → ℕ → List ℕ
+check_line depth records cells = codes "ok depth " ++ decimal depth ++ codes " records " ++ decimal records ++ codes " cells " ++ decimal cells ++ codes "\n"
+
+unfoldable pub has_line : Bool → List ℕ
+has_line filled = cond filled (codes "yes\n") (codes "no\n")

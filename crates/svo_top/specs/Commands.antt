@@ -1,0 +1,39 @@
+-- Which question about a node file a command asks.
+use Rattle.std.specs.Prelude.{Option, None, Some, IsSome, IsSomeAnd, ⊤}
+use Rattle.svo_words.specs.declared.commands.Command.{Command}
+use Rattle.svo_words.specs.declared.commands.Command.TheVariants as command
+use Rattle.std.specs.Option.{option_map}
+use Rattle.std.specs.Result.{result_ok}
+use Rattle.svo_top.specs.Asking.{IsLate}
+use Rattle.svo_top.specs.Picturing.{axis_from, camera_of}
+use Rattle.svo_top.specs.Ranges.{range_of_keep}
+use Rattle.svo_top.specs.declared.asking.Question.{Question}
+use Rattle.svo_top.specs.declared.asking.Question.TheVariants.{Check, Has, Cells, Lift, Cast, Slice, View}
+use Rattle.svo_top.specs.declared.outcome.RangeFault.{RangeFault}
+
+abbrev pub question_of : Command → Option Question
+question_of (command.Build words) = None
+question_of (command.Why words) = None
+question_of (command.Make words) = None
+question_of (command.Sum words) = None
+question_of (command.Check words) = Some Check
+question_of (command.Has words) = Some (Has words.code)
+question_of (command.Cells words) = Some Cells
+question_of (command.Lift words) = Some Lift
+question_of (command.Cast words) = Some Cast
+question_of (command.Slice words) = Some (Slice (axis_from words.axis) words.at)
+question_of (command.View words) = option_map View (result_ok (camera_of (range_of_keep words.keep) words))
+
+-- the command asks about a node file
+abbrev pub NamesNodes : Command → Type 0
+NamesNodes command = IsSome (question_of command)
+
+-- it reads the input
+abbrev pub ReadsInput : Command → Type 0
+ReadsInput (command.Build words) = ⊤
+ReadsInput (command.Cast words) = ⊤
+ReadsInput command = ⊥
+
+-- a number of its may be out of this range, which is tested once the file is loaded
+abbrev pub MayBeLate : Command → RangeFault → Type 0
+MayBeLate command fault = IsSomeAnd (question_of command) (λ question. IsLate question fault)

@@ -1,0 +1,45 @@
+-- What a run does that could read its words.
+use Rattle.std.specs.Prelude.{◌≡◌, ℕ, List, Option, None, Ok}
+use Rattle.dev_traits.specs.Change.{Change, ScratchChange, StoreChange, IsKept, IsScratchKept}
+use Rattle.svo_words.specs.declared.commands.Command.{Command}
+use Rattle.svo_words.specs.declared.commands.Command.TheVariants.{Build, Why, Check, Has, Cells, Lift, Cast, Slice, View, Make, Sum}
+use Rattle.svo_top.specs.Asking.{Asks}
+use Rattle.svo_top.specs.Build.{BuildRun}
+use Rattle.slice_view.specs.Cameras.{CameraShape}
+use Rattle.svo_words.specs.declared.pictures.ViewWords.{ViewWords}
+use Rattle.svo_top.specs.Picturing.{axis_from, camera_of}
+use Rattle.svo_top.specs.Make.{MakeRun}
+use Rattle.svo_top.specs.Sum.{SumRun}
+use Rattle.svo_top.specs.Ranges.{range_of_keep}
+use Rattle.svo_top.specs.Why.{WhyRun}
+use Rattle.svo_top.specs.declared.asking.Question.{Question}
+use Rattle.svo_top.specs.declared.asking.Question.TheVariants as question
+use Rattle.svo_top.specs.declared.outcome.Status.{Status}
+use Rattle.svo_top.specs.declared.outcome.Status.TheVariants.{Done}
+use Rattle.svo_top.specs.declared.outcome.RangeFault.{RangeFault}
+
+-- a question about a node file keeps nothing on scratch, and has no line where it is done
+pub record QuestionRun (question : Question) (name : List ℕ) (range : Option RangeFault) (input out : Change) (scratch : ScratchChange) (nodes : StoreChange) (err : Change) (status : Status) : Type 0 where
+  pub asks : range ≡ None → Asks question name input out nodes status
+  pub unspilled : IsScratchKept scratch
+  pub silent : status ≡ Done → IsKept err
+
+-- the same of a view, whose camera is within its limits
+pub record ViewRun (words : ViewWords) (input out : Change) (scratch : ScratchChange) (nodes : StoreChange) (err : Change) (status : Status) : Type 0 where
+  pub asks : (camera : CameraShape) → camera_of (range_of_keep words.keep) words ≡ Ok camera → Asks (question.View camera) words.nodes input out nodes status
+  pub unspilled : IsScratchKept scratch
+  pub silent : status ≡ Done → IsKept err
+
+-- what the run of each command does
+abbrev pub Does : Command → Change → Change → ScratchChange → StoreChange → Change → Status → Type 0
+Does (Build words) input out scratch nodes err status = BuildRun words input out scratch err status × IsKept nodes
+Does (Why words) input out scratch nodes err status = WhyRun words input out scratch err status × IsKept nodes
+Does (Check words) input out scratch nodes err status = QuestionRun question.Check words.nodes None input out scratch nodes err status
+Does (Has words) input out scratch nodes err status = QuestionRun (question.Has words.code) words.nodes None input out scratch nodes err status
+Does (Cells words) input out scratch nodes err status = QuestionRun question.Cells words.nodes (range_of_keep words.keep) input out scratch nodes err status
+Does (Lift words) input out scratch nodes err status = QuestionRun question.Lift words.nodes None input out scratch nodes err status
+Does (Cast words) input out scratch nodes err status = QuestionRun question.Cast words.nodes (range_of_keep words.keep) input out scratch nodes err status
+Does (Slice words) input out scratch nodes err status = QuestionRun (question.Slice (axis_from words.axis) words.at) words.nodes (range_of_keep words.keep) input out scratch nodes err status
+Does (View words) input out scratch nodes err status = ViewRun words input out scratch nodes err status
+Does (Make words) input out scratch nodes err status = MakeRun words input out scratch err status × IsKept nodes
+Does (Sum words) input out scratch nodes err status = SumRun words input out scratch err status × IsKept nodes

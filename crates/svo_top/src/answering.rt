@@ -1,0 +1,207 @@
+//! A question about a loaded file.
+
+ghost use Rattle.std.specs.Prelude.{◌≡◌, ◌≤◌, ◌<◌, ◌&&◌, ◌^◌, ℤ, pos, int_le, nat_lt, unsigned_abs, List, None, IfSome};
+ghost use Rattle.dev_traits.specs.Change.{change_of};
+ghost use Rattle.octree_specs.specs.Cells.{Cell};
+ghost use Rattle.node_file.specs.FileView.{IsFileView};
+ghost use Rattle.svo_top.specs.Answering.{bar, is_code};
+ghost use Rattle.svo_top.specs.Asking.{AsksFile, Ends, Works, IsLate, NeedsGrid, Admits};
+ghost use Rattle.svo_top.specs.Picturing.{is_layer};
+ghost use Rattle.svo_top.specs.Loaded.{status_of_answer};
+ghost use Rattle.svo_top.specs.NodeFiles.{KeepsCells};
+ghost use Rattle.svo_top.specs.declared.outcome.Status.TheVariants.{Range, Refused};
+ghost use Rattle.svo_top.specs.declared.outcome.RangeFault.{RangeFault};
+ghost use Rattle.svo_top.specs.declared.outcome.NodeRefusal.{NodeRefusal};
+
+use crate::asking::Question;
+use crate::casting::status_of_rays;
+use crate::checking::tell_numbers;
+use crate::lifting::put_lifted;
+use crate::membership::tell_membership;
+use crate::outcome::{Device, NodeRefusal, RangeFault, Status};
+use cell_lists::list_cells;
+use dev_traits::{ByteSink, ByteSource};
+use node_check::{AnswerStop, CheckFault, WalkFault, check};
+use node_file::Records;
+use ray_answers::answer_rays;
+use slice_view::{slice, view};
+use std::sync::ledger::Ledger;
+use svo_base::Steps;
+
+/// Answers a question about a loaded file: it is checked whole, then the ranges are tested that need
+/// its grid, and then comes the work.
+pub fn ask_file<I: ByteSource, O: ByteSink, R: Records, L: Ledger>(
+    question: &Question,
+    input: &mut I,
+    out: &mut O,
+    nodes: &mut R,
+    reads: &mut Steps<L>,
+) -> Status
+    ensures asks { AsksFile question.now (R.file nodes.old)
+        (change_of I.rest I.faults input.old input.new)
+        (change_of O.written O.faults out.old out.new)
+        (R.faults nodes.old) (R.faults nodes.new) result }
+    ensures ends { Ends question.now
+        (change_of I.rest I.faults input.old input.new)
+        (change_of O.written O.faults out.old out.new)
+        (R.faults nodes.old) (R.faults nodes.new) result }
+    ensures later { R.faults nodes.old ≤ R.faults nodes.new }
+    ensures lender { R.lender nodes.new ≡ R.lender nodes.old }
+{
+    match admit(question, nodes, reads) {
+        Err(status) => status,
+        Ok(()) => work(question, input, out, nodes, reads),
+    }
+}
+
+/// Whether the file is a node file and the numbers of the question are in its grid; if not, how the
+/// run ends.
+fn admit<R: Records, L: Ledger>(
+    question: &Question,
+    nodes: &mut R,
+    reads: &mut Steps<L>,
+) -> Result<(), Status>
+    ensures admits { Admits question.now (R.file nodes.old) (R.faults nodes.old) (R.faults nodes.new) result }
+    ensures later { R.faults nodes.old ≤ R.faults nodes.new }
+    ensures same { R.file nodes.new ≡ R.file nodes.old }
+    ensures lender { R.lender nodes.new ≡ R.lender nodes.old }
+    ensures framed { IsFileView (R.file nodes.old) }
+{
+    let depth = nodes.grid().depth();
+    match check(nodes, reads) {
+        Err(CheckFault::Failed) => return Err(Status::Device(Device::Nodes)),
+        Err(CheckFault::Refused { number }) => {
+            return Err(Status::Refused(NodeRefusal::Number(number)));
+        }
+        Ok(_) => {}
+    }
+    match bar(question, depth) {
+        Some(fault) => Err(Status::Range(fault)),
+        None => Ok(()),
+    }
+}
+
+/// The first range that needs the grid of the file and that a number of the question is out of.
+fn bar(question: &Question, depth: u32) -> Option<RangeFault>
+    requires { depth ≤ 12 }
+    ensures bar { result ≡ bar question.now depth }
+    ensures late { IfSome result (λ fault. IsLate question.now fault × NeedsGrid fault) }
+{
+    match question {
+        Question::Has(code) => {
+            if is_code(code, depth) {
+                None
+            } else {
+                Some(RangeFault::Code)
+            }
+        }
+        Question::Slice(_, at) => {
+            if is_layer(at, depth) {
+                None
+            } else {
+                Some(RangeFault::Slice)
+            }
+        }
+        Question::Check | Question::Cells | Question::Lift | Question::Cast | Question::View(_) =>
+            None,
+    }
+}
+
+/// Whether a number is the code of a cell of a grid of this depth.
+fn is_code(code: &i64, depth: u32) -> bool
+    requires { depth ≤ 12 }
+    ensures { result ≡ is_code code.now depth }
+{
+    *code >= 0 && code.unsigned_abs() < cell_count(depth)
+}
+
+/// A code without its sign.
+fn magnitude(code: &i64) -> u64
+    ensures { result ≡ unsigned_abs code.now }
+{
+    code.unsigned_abs()
+}
+
+/// Whether a number is the place of a layer of a grid of this depth.
+fn is_layer(at: &i64, depth: u32) -> bool
+    requires { depth ≤ 12 }
+    ensures { result ≡ is_layer at.now depth }
+{
+    *at >= 0 && at.unsigned_abs() < layer_count(depth)
+}
+
+/// The place of a layer without its sign.
+fn place(at: &i64) -> u32
+    requires { unsigned_abs at.now < 2 ^ 12 }
+    ensures { result ≡ unsigned_abs at.now }
+{
+    at.unsigned_abs() as u32
+}
+
+/// How many layers of cells a grid of this depth has.
+fn layer_count(depth: u32) -> u64
+    requires { depth ≤ 12 }
+    ensures { result ≡ 2 ^ depth }
+{
+    1 << depth
+}
+
+/// How many cells a grid of this depth has.
+fn cell_count(depth: u32) -> u64
+    requires { depth ≤ 12 }
+    ensures { result ≡ 8 ^ depth }
+{
+    8u64.pow(depth)
+}
+
+/// The work of a question over a file that was checked.
+fn work<I: ByteSource, O: ByteSink, R: Records, L: Ledger>(
+    question: &Question,
+    input: &mut I,
+    out: &mut O,
+    nodes: &mut R,
+    reads: &mut Steps<L>,
+) -> Status
+    requires unbarred { bar question.now (R.file nodes.old).grid.depth ≡ None }
+    requires shallow { (R.file nodes.old).grid.depth ≤ 12 }
+    ensures works { (cells : List Cell) → KeepsCells (R.file nodes.old) cells → Works question.now (R.file nodes.old).format (R.file nodes.old).grid cells
+        (change_of I.rest I.faults input.old input.new)
+        (change_of O.written O.faults out.old out.new)
+        (R.faults nodes.old) (R.faults nodes.new) result }
+    ensures sure { (cells : List Cell) → KeepsCells (R.file nodes.old) cells → (refusal : NodeRefusal) → result ≡ Refused refusal → ⊥ }
+    ensures ends { Ends question.now
+        (change_of I.rest I.faults input.old input.new)
+        (change_of O.written O.faults out.old out.new)
+        (R.faults nodes.old) (R.faults nodes.new) result }
+    ensures unbarred { (fault : RangeFault) → NeedsGrid fault → result ≡ Range fault → ⊥ }
+    ensures later { R.faults nodes.old ≤ R.faults nodes.new }
+    ensures lender { R.lender nodes.new ≡ R.lender nodes.old }
+{
+    match question {
+        Question::Check => status_of_answer(tell_numbers(nodes, out)),
+        Question::Has(code) => {
+            status_of_answer(tell_membership(nodes, magnitude(code), out, reads))
+        }
+        Question::Cells => status_of_answer(list_cells(nodes, out, reads)),
+        Question::Lift => status_of_answer(put_lifted(nodes, out, reads)),
+        Question::Cast => status_of_rays(answer_rays(nodes, input, out, reads)),
+        Question::Slice(axis, at) => {
+            status_of_answer(slice(nodes, *axis, place(at), out, reads))
+        }
+        Question::View(camera) => status_of_answer(view(nodes, camera, out, reads)),
+    }
+}
+
+/// How a run ends whose answer is put out so.
+fn status_of_answer(answer: Result<(), AnswerStop>) -> Status
+    ensures { result ≡ status_of_answer answer }
+{
+    match answer {
+        Ok(()) => Status::Done,
+        Err(AnswerStop::WriteFault) => Status::Device(Device::Write),
+        Err(AnswerStop::Walk(WalkFault::Failed)) => Status::Device(Device::Nodes),
+        Err(AnswerStop::Walk(WalkFault::Refused { number, .. })) => {
+            Status::Refused(NodeRefusal::Number(number))
+        }
+    }
+}

@@ -1,0 +1,91 @@
+//! The commands `slice` and `view`: the pictures that words name.
+
+ghost use Rattle.std.specs.Prelude.{◌≡◌, ◌≢◌};
+ghost use Rattle.dev_traits.specs.Change.{change_of};
+ghost use Rattle.svo_top.specs.Causes.{DeviceCause};
+ghost use Rattle.svo_top.specs.Endings.{status_of};
+ghost use Rattle.svo_top.specs.Obeying.{ObeysView, StopsView};
+ghost use Rattle.svo_top.specs.Picturing.{axis_from, camera_of, kind_from};
+ghost use Rattle.svo_top.specs.Ranges.{range_of_keep};
+
+use crate::asking::{Question, ask};
+use crate::outcome::{Device, RangeFault, Status};
+use crate::questioning::range_of_keep;
+use crate::reporting::Ending;
+use dev_traits::{ByteSink, ByteSource, NodeStore};
+use slice_view::{Axis, Camera, CameraKind};
+use svo_words::{AxisWord, KindWord, ViewWords};
+
+/// Puts out a view of the file that the words name, unless a number is out of a range that needs no
+/// file.
+pub fn show_view<I: ByteSource, O: ByteSink, N: NodeStore>(
+    words: &ViewWords,
+    input: &mut I,
+    out: &mut O,
+    nodes: &mut N,
+) -> Ending
+    ensures obeys { ObeysView words.now
+        (change_of I.rest I.faults input.old input.new)
+        (change_of O.written O.faults out.old out.new)
+        (change_of N.files N.faults nodes.old nodes.new) result }
+    ensures stops { StopsView words.now
+        (change_of I.rest I.faults input.old input.new)
+        (change_of O.written O.faults out.old out.new)
+        (change_of N.files N.faults nodes.old nodes.new) (status_of result) }
+    ensures read { DeviceCause Device.Read (change_of I.rest I.faults input.old input.new) (status_of result) }
+    ensures write { DeviceCause Device.Write (change_of O.written O.faults out.old out.new) (status_of result) }
+    ensures nodes { DeviceCause Device.Nodes (change_of N.files N.faults nodes.old nodes.new) (status_of result) }
+    ensures unspilled { status_of result ≢ Status.Device Device.Scratch }
+{
+    match camera_of(words) {
+        Err(fault) => Ending::Stopped(Status::Range(fault)),
+        Ok(camera) => {
+            let question = Question::View(camera);
+            Ending::Stopped(ask(&words.nodes, &question, input, out, nodes))
+        }
+    }
+}
+
+/// The camera that words name, or the first range that one of their numbers is out of.
+fn camera_of(words: &ViewWords) -> Result<Camera, RangeFault>
+    ensures { result ≡ camera_of (range_of_keep words.now.keep) words.now }
+{
+    if let Some(fault) = range_of_keep(words.keep) {
+        return Err(fault);
+    }
+    let kind = kind_from(words.kind);
+    match Camera::new(
+        kind,
+        words.eye,
+        words.toward,
+        words.right,
+        words.up,
+        words.width,
+        words.height,
+        words.far,
+    ) {
+        None => Err(RangeFault::View),
+        Some(camera) => Ok(camera),
+    }
+}
+
+/// How the rays of a view run.
+fn kind_from(word: KindWord) -> CameraKind
+    ensures { result ≡ kind_from word }
+{
+    match word {
+        KindWord::Parallel => CameraKind::Parallel,
+        KindWord::Pinhole => CameraKind::Pinhole,
+    }
+}
+
+/// The axis that a slice is across.
+pub fn axis_from(word: AxisWord) -> Axis
+    ensures { result ≡ axis_from word }
+{
+    match word {
+        AxisWord::X => Axis::X,
+        AxisWord::Y => Axis::Y,
+        AxisWord::Z => Axis::Z,
+    }
+}

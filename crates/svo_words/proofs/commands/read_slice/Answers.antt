@@ -1,0 +1,20 @@
+use Rattle.std.proofs.Common.{map, Ok, Err}
+use Rattle.std.specs.Prelude.{codes}
+use Rattle.std.specs.String.{string_bytes}
+use Rattle.svo_words.specs.Forms.{slice_form}
+use Rattle.svo_words.specs.Pictures.{slice_choices, slice_from}
+use Rattle.svo_words.specs.declared.commands.Command.TheVariants.{Slice}
+use Rattle.svo_words.proofs.Answering.{fault_answer, made_answer_of}
+use Rattle.svo_words.proofs.commands.read_slice.Goals as goal
+
+pub returns-in_err-values : goal.returns-in_err-values
+returns-in_err-values c =
+    fault_answer slice_form _ (map string_bytes c.args.words.now) _ _ c.slice_choices-choices.ensures.table c.in_err-values.ensures c.from_residual.ensures
+
+pub returns-in-Err : goal.returns-in-Err
+returns-in-Err c =
+    made_answer_of Slice slice_from (codes "slice") _ slice_choices (map string_bytes c.args.words.now) _ (Err c.in-Err.fault) c.slice_choices-choices.ensures.table c.in_ok-values.ensures c.in-Err.ensures
+
+pub returns : goal.returns
+returns c =
+    made_answer_of Slice slice_from (codes "slice") _ slice_choices (map string_bytes c.args.words.now) _ (Ok c.in-Ok.slice) c.slice_choices-choices.ensures.table c.in_ok-values.ensures c.in-Ok.ensures
