@@ -1,72 +1,15 @@
 //! Lists and lifted files of small octrees, and what is left where a device fails.
 
-ghost use Rattle.std.specs.Prelude.{◌≡◌, ◌<◌, ◌≤◌, cond, length};
-ghost use Rattle.svo_base.specs.GridShape.{IsGrid};
+ghost use Rattle.std.specs.Prelude.{◌≡◌, ◌<◌, ◌≤◌, length};
 
 use crate::{lift, list_cells};
-use dev_traits::{Failed, MemSink, PartFail};
+use dev_traits::{MemSink, PartFail};
 use node_check::{AnswerStop, CellWalk, WalkFault, next_cell};
-use node_file::{Records, Totals, header_bytes, trailer_bytes};
+use node_file::{LentWords, header_bytes, trailer_bytes};
 use std::alloc::{AllocError, Global};
 use std::marker::Brand;
 use std::sync::ledger::{Blank, Ledger};
 use svo_base::{Grid, Steps};
-
-/// Lent words as those of a file, in format 1 where they are masks of cells, else in format 2. One call
-/// of `word` is refused: the one with this number, from 1.
-#[derive(Drop)]
-struct LentWords<'a> {
-    masks: bool,
-    grid: Grid,
-    words: &'a [u64],
-    refused: u64,
-    calls: u64,
-    faults: u64,
-    ghost limits: { IsGrid grid },
-    ghost some: { 1 ≤ length words.now },
-}
-
-impl<'a> Records for LentWords<'a> {
-    ghost use Rattle.std.specs.Prelude.{cond, length, Some};
-
-    ghost file = { λ s. record { format = cond s.masks 1 2; grid = s.grid; totals = record { records = length s.words.now; cells = 0 }; words = Some s.words.now } };
-
-    ghost faults = { λ s. s.faults };
-
-    ghost looked = { λ s. s.calls };
-
-    fn grid(&self) -> Grid {
-        self.grid
-    }
-
-    fn totals(&self) -> Totals {
-        Totals {
-            records: self.words.len() as u64,
-            cells: 0,
-        }
-    }
-
-    fn format(&self) -> u32 {
-        number_of_format(self.masks)
-    }
-
-    fn word<L: Ledger>(&mut self, number: u64, reads: &mut Steps<L>) -> Result<u64, Failed> {
-        reads.tick();
-        self.calls = self.calls.saturating_add(1);
-        if self.calls == self.refused {
-            self.faults = self.faults.saturating_add(1);
-            return Err(Failed);
-        }
-        let words = self.words;
-        Ok(words[number as usize])
-    }
-}
-
-fn number_of_format(masks: bool) -> u32
-    ensures { result ≡ cond masks 1 2 }
-{
-    if masks { 1 } else { 2 }
-}
 
 /// A file, and which call of its words is refused.
 #[derive(Clone, Copy, Debug)]
@@ -125,6 +68,7 @@ fn put_in<L: Ledger, M: Ledger>(
     let mut nodes = LentWords {
         masks: case.masks,
         grid,
+        cells: case.cells,
         words: case.words,
         refused,
         calls: 0,
@@ -295,6 +239,7 @@ fn agrees_in<L: Ledger>(case: &Case, from: u64, blank: Blank) -> bool
     let mut nodes = LentWords {
         masks: case.masks,
         grid,
+        cells: case.cells,
         words: case.words,
         refused: 0,
         calls: 0,

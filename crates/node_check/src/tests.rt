@@ -1,71 +1,12 @@
 //! Files in memory that are checked and asked.
 
-ghost use Rattle.std.specs.Prelude.{◌≡◌, ◌<◌, ◌≤◌, ◌^◌, cond, length};
-ghost use Rattle.svo_base.specs.GridShape.{IsGrid};
+ghost use Rattle.std.specs.Prelude.{◌≡◌, ◌<◌, ◌≤◌, ◌^◌, length};
 
 use crate::{CheckFault, WalkFault, check, face_of, has, next_cell};
-use dev_traits::Failed;
-use node_file::{Records, Totals};
+use node_file::LentWords;
 use std::marker::Brand;
 use std::sync::ledger::{Blank, Ledger};
 use svo_base::{Grid, Steps};
-
-/// Lent words as those of a file, in format 1 where they are masks of cells, else in format 2. One call
-/// of `word` is refused: the one with this number, from 1.
-#[derive(Drop)]
-struct LentWords<'a> {
-    masks: bool,
-    grid: Grid,
-    cells: u64,
-    words: &'a [u64],
-    refused: u64,
-    calls: u64,
-    faults: u64,
-    ghost limits: { IsGrid grid },
-    ghost some: { 1 ≤ length words.now },
-}
-
-impl<'a> Records for LentWords<'a> {
-    ghost use Rattle.std.specs.Prelude.{cond, length, Some};
-
-    ghost file = { λ s. record { format = cond s.masks 1 2; grid = s.grid; totals = record { records = length s.words.now; cells = s.cells }; words = Some s.words.now } };
-
-    ghost faults = { λ s. s.faults };
-
-    ghost looked = { λ s. s.calls };
-
-    fn grid(&self) -> Grid {
-        self.grid
-    }
-
-    fn totals(&self) -> Totals {
-        Totals {
-            records: self.words.len() as u64,
-            cells: self.cells,
-        }
-    }
-
-    fn format(&self) -> u32 {
-        number_of_format(self.masks)
-    }
-
-    fn word<L: Ledger>(&mut self, number: u64, reads: &mut Steps<L>) -> Result<u64, Failed> {
-        reads.tick();
-        self.calls = self.calls.saturating_add(1);
-        if self.calls == self.refused {
-            self.faults = self.faults.saturating_add(1);
-            return Err(Failed);
-        }
-        let words = self.words;
-        Ok(words[number as usize])
-    }
-}
-
-fn number_of_format(masks: bool) -> u32
-    ensures { result ≡ cond masks 1 2 }
-{
-    if masks { 1 } else { 2 }
-}
 
 /// What the checker answers, and which number of calls it made.
 fn checked_in<L: Ledger>(case: &Case, words: &[u64], refused: u64, blank: Blank) -> Answer

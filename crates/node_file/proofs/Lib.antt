@@ -3,3 +3,4 @@ pub mod Fronts
 pub mod Fields
 pub mod Frames
 pub mod Loads
+pub mod KnownFormats

@@ -2,67 +2,17 @@
 //! which asks every filled cube.
 
 ghost use Rattle.std.specs.Prelude.{◌≡◌, ◌<◌, ◌≤◌, ◌^◌, length};
-ghost use Rattle.svo_base.specs.GridShape.{IsGrid};
 
 use crate::{Hit, cast};
-use dev_traits::Failed;
 use morton_code::cube_of;
 use node_check::WalkFault;
-use node_file::{Records, Totals};
+use node_file::LentWords;
 use ray_fraction::{Ray, compare, entry};
 use std::alloc::{AllocError, Global};
 use std::cmp::Ordering;
 use std::marker::Brand;
 use std::sync::ledger::{Blank, Ledger};
 use svo_base::{Grid, Steps};
-
-/// Lent words as those of a file. One call of `word` is refused: the one with this number, from 1.
-#[derive(Drop)]
-struct LentWords<'a> {
-    grid: Grid,
-    words: &'a [u64],
-    refused: u64,
-    calls: u64,
-    faults: u64,
-    ghost limits: { IsGrid grid },
-    ghost some: { 1 ≤ length words.now },
-}
-
-impl<'a> Records for LentWords<'a> {
-    ghost use Rattle.std.specs.Prelude.{length, Some};
-
-    ghost file = { λ s. record { format = 2; grid = s.grid; totals = record { records = length s.words.now; cells = 0 }; words = Some s.words.now } };
-
-    ghost faults = { λ s. s.faults };
-
-    ghost looked = { λ s. s.calls };
-
-    fn grid(&self) -> Grid {
-        self.grid
-    }
-
-    fn totals(&self) -> Totals {
-        Totals {
-            records: self.words.len() as u64,
-            cells: 0,
-        }
-    }
-
-    fn format(&self) -> u32 {
-        2
-    }
-
-    fn word<L: Ledger>(&mut self, number: u64, reads: &mut Steps<L>) -> Result<u64, Failed> {
-        reads.tick();
-        self.calls = self.calls.saturating_add(1);
-        if self.calls == self.refused {
-            self.faults = self.faults.saturating_add(1);
-            return Err(Failed);
-        }
-        let words = self.words;
-        Ok(words[number as usize])
-    }
-}
 
 /// A hit as `(n, m, code)`: at the time n / m in the cell of this code.
 type Met = (u64, u64, u64);
@@ -89,7 +39,9 @@ fn told_in<L: Ledger>(grid: &Grid, words: &[u64], ray: &Ray, refused: u64, blank
     let mut reads = Steps::<L>::new(blank);
     let _limits = grid.depth();
     let mut nodes = LentWords {
+        masks: false,
         grid: *grid,
+        cells: 0,
         words,
         refused,
         calls: 0,

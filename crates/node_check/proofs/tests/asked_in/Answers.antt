@@ -1,7 +1,7 @@
 -- Codes below 8 are those of cells in any grid.
 use Rattle.std.proofs.Common.{ap, subst, sym, ◌<◌, ◌^◌}
 use Rattle.node_file.specs.FileView.{FileView}
-use Rattle.node_check.proofs.Framing.{within_grid}
+use Rattle.node_check.proofs.SmallCodes.{within_grid}
 use Rattle.node_check.proofs.tests.asked_in.Goals as goal
 
 pub has-requires : goal.has-requires
