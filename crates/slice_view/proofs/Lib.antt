@@ -2,6 +2,7 @@ pub mod CameraLimits
 pub mod StillRays
 pub mod ViewGreys
 pub mod ViewPuts
+pub mod OneView
 pub mod Places
 pub mod ChildSquares
 pub mod Painted

@@ -4,3 +4,4 @@ pub mod Bands
 pub mod Cameras
 pub mod Greys
 pub mod Views
+pub mod Laws

@@ -14,7 +14,7 @@ mod viewing;
 
 pub use axes::Axis;
 pub use cameras::{Camera, CameraKind};
-pub use laws::pixels_refuse_only_still_rays;
+pub use laws::{fronts_are_of_whole_views, pixels_refuse_only_still_rays, views_are_one};
 pub use node_check::AnswerStop;
 pub use slicing::slice;
 pub use viewing::view;

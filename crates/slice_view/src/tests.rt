@@ -1,64 +1,15 @@
 //! Slices of octrees whose words are lent, and beside them the plain program, which asks cell by cell.
 
 ghost use Rattle.std.specs.Prelude.{◌≡◌, ◌<◌, ◌≤◌, ◌^◌, length};
-ghost use Rattle.svo_base.specs.GridShape.{IsGrid};
 
 use crate::{AnswerStop, Axis, slice};
-use dev_traits::{Failed, MemSink, PartFail};
+use dev_traits::{MemSink, PartFail};
 use node_check::{WalkFault, has};
-use node_file::{Records, Totals};
+use node_file::LentWords;
 use std::alloc::{AllocError, Global};
 use std::marker::Brand;
 use std::sync::ledger::{Blank, Ledger};
 use svo_base::{Grid, Steps};
-
-/// Lent words as those of a file. One call of `word` is refused: the one with this number, from 1.
-#[derive(Drop)]
-struct LentWords<'a> {
-    grid: Grid,
-    words: &'a [u64],
-    refused: u64,
-    calls: u64,
-    faults: u64,
-    ghost limits: { IsGrid grid },
-    ghost some: { 1 ≤ length words.now },
-}
-
-impl<'a> Records for LentWords<'a> {
-    ghost use Rattle.std.specs.Prelude.{length, Some};
-
-    ghost file = { λ s. record { format = 2; grid = s.grid; totals = record { records = length s.words.now; cells = 0 }; words = Some s.words.now } };
-
-    ghost faults = { λ s. s.faults };
-
-    ghost looked = { λ s. s.calls };
-
-    fn grid(&self) -> Grid {
-        self.grid
-    }
-
-    fn totals(&self) -> Totals {
-        Totals {
-            records: self.words.len() as u64,
-            cells: 0,
-        }
-    }
-
-    fn format(&self) -> u32 {
-        2
-    }
-
-    fn word<L: Ledger>(&mut self, number: u64, reads: &mut Steps<L>) -> Result<u64, Failed> {
-        reads.tick();
-        self.calls = self.calls.saturating_add(1);
-        if self.calls == self.refused {
-            self.faults = self.faults.saturating_add(1);
-            return Err(Failed);
-        }
-        let words = self.words;
-        Ok(words[number as usize])
-    }
-}
 
 /// What is sliced: the grid, the file's words, the axis and the place across it, and the number of the
 /// read that is refused, from 1.
@@ -84,7 +35,9 @@ fn sliced_in<L: Ledger>(case: &Case, out: &mut MemSink, blank: Blank) -> Report
     let mut reads = Steps::<L>::new(blank);
     let _limits = case.grid.depth();
     let mut nodes = LentWords {
+        masks: false,
         grid: *case.grid,
+        cells: 0,
         words: case.words,
         refused: case.refused,
         calls: 0,
@@ -184,7 +137,9 @@ fn has_in<L: Ledger>(grid: &Grid, words: &[u64], code: u64, blank: Blank) -> boo
     let mut reads = Steps::<L>::new(blank);
     let _limits = grid.depth();
     let mut nodes = LentWords {
+        masks: false,
         grid: *grid,
+        cells: 0,
         words,
         refused: 0,
         calls: 0,

@@ -2,67 +2,18 @@
 //! cube when the ray of a pixel enters it.
 
 ghost use Rattle.std.specs.Prelude.{◌≡◌, ◌<◌, ◌≤◌, ◌^◌, length};
-ghost use Rattle.svo_base.specs.GridShape.{IsGrid};
 
 use crate::CameraKind::{self, Parallel, Pinhole};
 use crate::{AnswerStop, Camera, view};
-use dev_traits::{Failed, MemSink, PartFail};
+use dev_traits::{MemSink, PartFail};
 use morton_code::cube_of;
 use node_check::WalkFault;
-use node_file::{Records, Totals};
+use node_file::LentWords;
 use ray_fraction::{Ray, entry};
 use std::alloc::{AllocError, Global};
 use std::marker::Brand;
 use std::sync::ledger::{Blank, Ledger};
 use svo_base::{Grid, Steps};
-
-/// Lent words as those of a file. One call of `word` is refused: the one with this number, from 1.
-#[derive(Drop)]
-struct LentWords<'a> {
-    grid: Grid,
-    words: &'a [u64],
-    refused: u64,
-    calls: u64,
-    faults: u64,
-    ghost limits: { IsGrid grid },
-    ghost some: { 1 ≤ length words.now },
-}
-
-impl<'a> Records for LentWords<'a> {
-    ghost use Rattle.std.specs.Prelude.{length, Some};
-
-    ghost file = { λ s. record { format = 2; grid = s.grid; totals = record { records = length s.words.now; cells = 0 }; words = Some s.words.now } };
-
-    ghost faults = { λ s. s.faults };
-
-    ghost looked = { λ s. s.calls };
-
-    fn grid(&self) -> Grid {
-        self.grid
-    }
-
-    fn totals(&self) -> Totals {
-        Totals {
-            records: self.words.len() as u64,
-            cells: 0,
-        }
-    }
-
-    fn format(&self) -> u32 {
-        2
-    }
-
-    fn word<L: Ledger>(&mut self, number: u64, reads: &mut Steps<L>) -> Result<u64, Failed> {
-        reads.tick();
-        self.calls = self.calls.saturating_add(1);
-        if self.calls == self.refused {
-            self.faults = self.faults.saturating_add(1);
-            return Err(Failed);
-        }
-        let words = self.words;
-        Ok(words[number as usize])
-    }
-}
 
 /// The words of the eight cells around (2,2,2) at depth 2, in format 1, where the root is the last.
 const EIGHT_CELLS: [u64; 9] = [128, 64, 32, 16, 8, 4, 2, 1, 255];
@@ -84,7 +35,9 @@ fn viewed_in<L: Ledger>(
     let mut reads = Steps::<L>::new(blank);
     let _limits = grid.depth();
     let mut nodes = LentWords {
+        masks: true,
         grid: *grid,
+        cells: 8,
         words: &EIGHT_CELLS,
         refused,
         calls: 0,
@@ -378,17 +331,7 @@ const LIMITS: &[Limits] = &[
         true,
     ),
     ([0, 0, 0], [0, 0, 0], [0, 0, 0], [0, 0, 0], 1, 1, 1, true),
-    ([EYE + 1, 0, 0], Z, X, Y, 1, 1, 1, false),
-    ([0, 0, -EYE - 1], Z, X, Y, 1, 1, 1, false),
-    ([0, 0, 0], [0, WAY + 1, 0], X, Y, 1, 1, 1, false),
-    ([0, 0, 0], Z, [0, 0, -WAY - 1], Y, 1, 1, 1, false),
-    ([0, 0, 0], Z, X, [WAY + 1, 0, 0], 1, 1, 1, false),
-    ([0, 0, 0], Z, X, Y, 4097, 1, 1, false),
-    ([0, 0, 0], Z, X, Y, 0, 1, 1, false),
-    ([0, 0, 0], Z, X, Y, 1, 4097, 1, false),
     ([0, 0, 0], Z, X, Y, 1, -1, 1, false),
-    ([0, 0, 0], Z, X, Y, 1, 1, FAR + 1, false),
-    ([0, 0, 0], Z, X, Y, 1, 1, 0, false),
     ([i64::MIN, 0, 0], Z, X, Y, 1, 1, 1, false),
 ];
 
@@ -407,5 +350,59 @@ fn cameras_are_within_their_limits(rt: HostRuntime) {
                 "the ray of {camera:?}"
             );
         }
+    }
+}
+
+/// The least and the greatest of a number of a camera.
+type Range = (i64, i64);
+
+const PLACE: Range = (-EYE, EYE);
+
+const STEP: Range = (-WAY, WAY);
+
+const SIDE: Range = (1, 4096);
+
+const TIME: Range = (1, FAR);
+
+/// The ranges of the eye, of the ways ahead, to the right and up, of the width, the height and the far
+/// time.
+const RANGES: [Range; 15] = [
+    PLACE, PLACE, PLACE, STEP, STEP, STEP, STEP, STEP, STEP, STEP, STEP, STEP, SIDE, SIDE, TIME,
+];
+
+/// An honest camera's numbers, in this order.
+const NUMBERS: [i64; 15] = [2, 2, -2, 0, 0, 1, 1, 0, 0, 0, 1, 0, 3, 2, 6];
+
+/// The camera of these numbers but for one.
+fn camera_with(at: usize, number: i64) -> Option<Camera>
+    requires { at < 15 }
+{
+    let mut all = NUMBERS;
+    all[at] = number;
+    Camera::new(
+        Pinhole,
+        [all[0], all[1], all[2]],
+        [all[3], all[4], all[5]],
+        [all[6], all[7], all[8]],
+        [all[9], all[10], all[11]],
+        all[12],
+        all[13],
+        all[14],
+    )
+}
+
+#[test]
+fn each_number_of_a_camera_has_its_range(rt: HostRuntime) {
+    for at in 0..15 {
+        let (least, greatest) = RANGES[at];
+        assert!(rt; camera_with(at, least).is_some(), "the least number {at}");
+        assert!(rt;
+            camera_with(at, greatest).is_some(),
+            "the greatest number {at}"
+        );
+        let below = least.wrapping_sub(1);
+        assert!(rt; camera_with(at, below).is_none(), "number {at} is {below}");
+        let above = greatest.wrapping_add(1);
+        assert!(rt; camera_with(at, above).is_none(), "number {at} is {above}");
     }
 }
