@@ -6,4 +6,4 @@ pub mod MadeBlocks
 pub mod MadeSums
 pub mod Asked
 pub mod Named
-pub mod MadeStops
+pub mod OneAnswer

@@ -33,7 +33,7 @@ use Rattle.svo_top.specs.declared.outcome.RangeFault.{RangeFault}
 use Rattle.svo_top.specs.declared.outcome.NodeRefusal.{NodeRefusal}
 use Rattle.svo_top.specs.declared.outcome.NodeRefusal.TheVariants.{NoFile, NotNodes, Number}
 use Rattle.svo_top.specs.declared.outcome.Device.TheVariants.{Nodes}
-use Rattle.svo_top.proofs.Asked.{clash, later_quiet, works_failed, works_later, keeps_if_accepted}
+use Rattle.svo_top.proofs.Asked.{clash, later_quiet, works_failed, works_memory, works_later, keeps_if_accepted}
 
 at_some : {T : Type 0} (o : Option T) (x : T) (P : T → Type 0) → o ≡ Some x → IfSome o P → P x
 at_some o x P is holds = subst (λ p. IfSome p P) is holds
@@ -264,3 +264,27 @@ asked view loaded_as question name input out nodes between after status framed s
       (subst (λ n. AsksFile question (view loaded_as) input out between n status) (sym known) asks);
   ends = ends_later question input out nodes.faults_before between nodes.faults_after status early (subst (λ n. Ends question input out between n status) (sym known) ends);
 }
+
+-- a question that was not asked for want of memory
+pub asks_memory : (question : Question) (name : List ℕ) (input out : Change) (nodes : StoreChange) → IsKept input → IsKept out → Asks question name input out nodes Memory
+asks_memory question name input out nodes kept_input kept_out = record {
+  told = λ bytes tells. record {
+    refused = λ refusal e. absurd cc;
+    refuses = λ refusal is. at_once (Refused refusal);
+    barred = λ fault needs e. absurd cc;
+    bars = λ format grid cells fault keeps is. at_once (Range fault);
+    works = λ format grid cells keeps free. works_memory out nodes.faults_before nodes.faults_after kept_out question format grid cells input kept_input;
+  };
+  ends = record {
+    may = tt;
+    reads = reads_kept question input Memory kept_input (λ text end. tt);
+    read = λ e. absurd cc;
+    written = λ e. absurd cc;
+    looked = λ e. absurd cc;
+    memory = λ e. (kept_input, kept_out);
+    barred = λ fault needs e. absurd cc;
+  };
+}
+  where
+    at_once : (wanted : Status) → EndsAtOnce wanted input out nodes.faults_before nodes.faults_after Memory
+    at_once wanted = record { unread = kept_input; unwritten = kept_out; is = λ quiet. inr refl }

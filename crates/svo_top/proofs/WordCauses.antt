@@ -11,7 +11,7 @@ use Rattle.svo_words.specs.declared.commands.Command.TheVariants.{Build, Why, Ch
 use Rattle.svo_words.specs.declared.commands.WordFault.{WordFault}
 use Rattle.svo_words.specs.declared.commands.WordFault.TheVariants as word
 use Rattle.svo_words.proofs.Meanings.{one_meaning_is}
-use Rattle.svo_top.specs.Asking.{Asks, AsksBytes, EndsAtOnce}
+use Rattle.svo_top.specs.Asking.{Asks}
 use Rattle.svo_top.specs.Build.{BuildRun, Finished, IsUntouched}
 use Rattle.svo_top.specs.Commands.{MayBeLate, NamesNodes, ReadsInput}
 use Rattle.svo_top.specs.Doing.{Does, QuestionRun}
@@ -21,6 +21,7 @@ use Rattle.svo_top.specs.Endings.{status_of, line_of, EndsBuild, EndsWhy, EndsQu
 use Rattle.svo_top.specs.NodeFiles.{Tells}
 use Rattle.svo_top.specs.Obeying.{Obeys, ObeysQuestion, Stops}
 use Rattle.svo_top.specs.Ranges.{range_of}
+use Rattle.svo_top.specs.Sum.{EndsSum}
 use Rattle.svo_top.specs.Usage.{fault_of, status_of_fault}
 use Rattle.svo_top.specs.Why.{WhyRun}
 use Rattle.svo_top.specs.declared.asking.Question.{Question}
@@ -33,9 +34,7 @@ use Rattle.svo_top.specs.declared.outcome.RangeFault.{RangeFault}
 use Rattle.svo_top.specs.declared.outcome.NodeRefusal.{NodeRefusal}
 use Rattle.svo_top.specs.declared.reporting.Ending.{Ending}
 use Rattle.svo_top.specs.declared.reporting.Ending.TheVariants.{Built as EndsBuilt, Answered, Stopped}
-use Rattle.svo_top.proofs.Asked.{works_memory}
-use Rattle.svo_top.proofs.Named.{reads_kept}
-use Rattle.svo_top.proofs.MadeStops.{sum_line_none}
+use Rattle.svo_top.proofs.Named.{asks_memory}
 
 -- ---- the words could not be read
 
@@ -47,30 +46,6 @@ fault_back (Err word.Options) fault e rest = sym e
 fault_back (Err word.Value) fault (inl e) rest = sym e
 fault_back (Err word.Value) fault (inr e) rest = absurd (rest cc)
 fault_back (Err word.Memory) fault e rest = absurd (rest cc)
-
--- a question that was not asked for want of memory
-asks_memory : (question : Question) (name : List ℕ) (input out : Change) (nodes : StoreChange) → IsKept input → IsKept out → Asks question name input out nodes Memory
-asks_memory question name input out nodes kept_input kept_out = record {
-  told = λ bytes tells. record {
-    refused = λ refusal e. absurd cc;
-    refuses = λ refusal is. at_once (Refused refusal);
-    barred = λ fault needs e. absurd cc;
-    bars = λ format grid cells fault keeps is. at_once (Range fault);
-    works = λ format grid cells keeps free. works_memory out nodes.faults_before nodes.faults_after kept_out question format grid cells input kept_input;
-  };
-  ends = record {
-    may = tt;
-    reads = reads_kept question input Memory kept_input (λ text end. tt);
-    read = λ e. absurd cc;
-    written = λ e. absurd cc;
-    looked = λ e. absurd cc;
-    memory = λ e. (kept_input, kept_out);
-    barred = λ fault needs e. absurd cc;
-  };
-}
-  where
-    at_once : (wanted : Status) → EndsAtOnce wanted input out nodes.faults_before nodes.faults_after Memory
-    at_once wanted = record { unread = kept_input; unwritten = kept_out; is = λ quiet. inr refl }
 
 without_memory : (input out : Change) (scratch : ScratchChange) (nodes : StoreChange) → IsKept input → IsKept out → IsScratchKept scratch → IsKept nodes → (command : Command)
     → Obeys command input out scratch nodes (Stopped Memory)
@@ -302,6 +277,17 @@ quiet_line (Stopped (Range fault)) ends e = absurd cc
 quiet_line (Stopped (Device one)) ends e = absurd cc
 quiet_line (Stopped (Refused one)) ends e = absurd cc
 quiet_line (Stopped Memory) ends e = absurd cc
+
+sum_line_none : (ending : Ending) → EndsSum ending → status_of ending ≡ Done → line_of ending ≡ []
+sum_line_none (EndsBuilt counts) ends e = absurd ends
+sum_line_none Answered ends e = refl
+sum_line_none (Stopped Done) ends e = absurd ends
+sum_line_none (Stopped (Usage kind)) ends e = absurd ends
+sum_line_none (Stopped (Input kind place)) ends e = absurd ends
+sum_line_none (Stopped (Range fault)) ends e = absurd cc
+sum_line_none (Stopped (Device one)) ends e = absurd cc
+sum_line_none (Stopped (Refused one)) ends e = absurd ends
+sum_line_none (Stopped Memory) ends e = absurd cc
 
 run_of_why : (words : WhyWords) (input out : Change) (scratch : ScratchChange) (nodes : StoreChange) (err : Change) (ending : Ending)
     → Obeys (Why words) input out scratch nodes ending → (line_of ending ≡ [] → IsKept err) → WhyRun words input out scratch err (status_of ending)

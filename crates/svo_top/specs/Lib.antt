@@ -19,3 +19,4 @@ pub mod Doing
 pub mod Rays
 pub mod Make
 pub mod Sum
+pub mod Laws

@@ -1,15 +1,17 @@
 //! Questions about a node file of the store.
 
-ghost use Rattle.std.specs.Prelude.{◌≡◌, ◌<◌};
+ghost use Rattle.std.specs.Prelude.{◌≡◌, ◌<◌, ◌≤◌};
 ghost use Rattle.dev_traits.specs.Change.{change_of};
 ghost use Rattle.svo_top.specs.Asking.{Asks};
 ghost use Rattle.svo_top.specs.Loaded.{status_of_load};
 
 use crate::answering::ask_file;
 use crate::outcome::{Device, NodeRefusal, Status};
+use block_cache::{BlockCache, Blocks};
 use dev_traits::{ByteSink, ByteSource, NodeStore};
 use node_file::{Frame, LoadFault, Nodes};
 use slice_view::{Axis, Camera};
+use std::alloc::Global;
 use std::marker::Brand;
 use std::sync::ledger::{Blank, Ledger};
 use svo_base::Steps;
@@ -34,25 +36,36 @@ pub enum Question {
     View(Camera),
 }
 
-/// Answers a question about the file of a name. The file is loaded and checked whole before anything
-/// else, and then the ranges are tested that need its grid.
+/// Answers a question about the file of a name, whose words are read by blocks; so many of those last
+/// read are kept. The file is loaded and checked whole before anything else, and then the ranges are
+/// tested that need its grid. `Memory`: there is none for a table of so many blocks.
 pub fn ask<I: ByteSource, O: ByteSink, N: NodeStore>(
+    alloc: Global,
+    keep: usize,
     name: &Text,
     question: &Question,
     input: &mut I,
     out: &mut O,
     store: &mut N,
 ) -> Status
+    requires { (1 ≤ keep) × (keep ≤ 65536) }
     ensures { Asks question.now name.now
         (change_of I.rest I.faults input.old input.new)
         (change_of O.written O.faults out.old out.new)
         (change_of N.files N.faults store.old store.new) result }
 {
-    ask_counted::<I, O, N, Brand>(name, question, input, out, store, Blank::new(1))
+    match BlockCache::make(alloc, keep) {
+        Err(_) => Status::Memory,
+        Ok(mut cache) => {
+            let blank = Blank::new(1);
+            ask_counted::<I, O, N, Brand>(&mut cache, name, question, input, out, store, blank)
+        }
+    }
 }
 
-/// The same, with the counter of reads in the ledger that the blank is for.
+/// The same with a cache of blocks, and with the counter of reads in the ledger that the blank is for.
 fn ask_counted<I: ByteSource, O: ByteSink, N: NodeStore, L: Ledger>(
+    cache: &mut BlockCache,
     name: &Text,
     question: &Question,
     input: &mut I,
@@ -69,11 +82,20 @@ fn ask_counted<I: ByteSource, O: ByteSink, N: NodeStore, L: Ledger>(
         (change_of N.files N.faults store.old store.new) result }
 {
     let mut reads = Steps::<L>::new(blank);
-    ask_named(name.as_str(), question, input, out, store, &mut reads)
+    ask_named(
+        cache,
+        name.as_str(),
+        question,
+        input,
+        out,
+        store,
+        &mut reads,
+    )
 }
 
 /// The same, with a counter of reads.
 fn ask_named<I: ByteSource, O: ByteSink, N: NodeStore, L: Ledger>(
+    cache: &mut BlockCache,
     name: &str,
     question: &Question,
     input: &mut I,
@@ -90,8 +112,9 @@ fn ask_named<I: ByteSource, O: ByteSink, N: NodeStore, L: Ledger>(
         Err(fault) => return status_of_load(fault),
         Ok(frame) => frame,
     };
-    let mut nodes = Nodes::new(store, frame);
-    ask_file(question, input, out, &mut nodes, reads)
+    let nodes = Nodes::new(store, frame);
+    let mut blocks = Blocks::new(nodes, cache);
+    ask_file(question, input, out, &mut blocks, reads)
 }
 
 /// How a run ends that cannot load a file.

@@ -8,6 +8,7 @@ mod casting;
 mod checking;
 mod explaining;
 mod jobs;
+mod laws;
 mod lifting;
 mod making;
 mod membership;
@@ -21,6 +22,7 @@ mod reporting;
 mod running;
 mod summing;
 
+pub use laws::answers_are_one;
 pub use outcome::{Device, InputKind, NodeRefusal, RangeFault, Status, UsageKind};
 pub use running::run;
 
@@ -30,6 +32,8 @@ mod error_output_tests;
 mod failing_tests;
 #[cfg(test)]
 mod file_tests;
+#[cfg(test)]
+mod keep_tests;
 #[cfg(test)]
 mod made_tests;
 #[cfg(test)]

@@ -1,24 +1,25 @@
 //! The commands `slice` and `view`: the pictures that words name.
 
-ghost use Rattle.std.specs.Prelude.{◌≡◌, ◌≢◌};
+ghost use Rattle.std.specs.Prelude.{◌≡◌, ◌≢◌, None};
 ghost use Rattle.dev_traits.specs.Change.{change_of};
 ghost use Rattle.svo_top.specs.Causes.{DeviceCause};
 ghost use Rattle.svo_top.specs.Endings.{status_of};
 ghost use Rattle.svo_top.specs.Obeying.{ObeysView, StopsView};
 ghost use Rattle.svo_top.specs.Picturing.{axis_from, camera_of, kind_from};
-ghost use Rattle.svo_top.specs.Ranges.{range_of_keep};
 
 use crate::asking::{Question, ask};
 use crate::outcome::{Device, RangeFault, Status};
-use crate::questioning::range_of_keep;
+use crate::questioning::keep_from;
 use crate::reporting::Ending;
 use dev_traits::{ByteSink, ByteSource, NodeStore};
 use slice_view::{Axis, Camera, CameraKind};
+use std::alloc::Global;
 use svo_words::{AxisWord, KindWord, ViewWords};
 
 /// Puts out a view of the file that the words name, unless a number is out of a range that needs no
 /// file.
 pub fn show_view<I: ByteSource, O: ByteSink, N: NodeStore>(
+    alloc: Global,
     words: &ViewWords,
     input: &mut I,
     out: &mut O,
@@ -37,22 +38,23 @@ pub fn show_view<I: ByteSource, O: ByteSink, N: NodeStore>(
     ensures nodes { DeviceCause Device.Nodes (change_of N.files N.faults nodes.old nodes.new) (status_of result) }
     ensures unspilled { status_of result ≢ Status.Device Device.Scratch }
 {
+    let keep = match keep_from(words.keep) {
+        Err(fault) => return Ending::Stopped(Status::Range(fault)),
+        Ok(keep) => keep,
+    };
     match camera_of(words) {
         Err(fault) => Ending::Stopped(Status::Range(fault)),
         Ok(camera) => {
             let question = Question::View(camera);
-            Ending::Stopped(ask(&words.nodes, &question, input, out, nodes))
+            Ending::Stopped(ask(alloc, keep, &words.nodes, &question, input, out, nodes))
         }
     }
 }
 
-/// The camera that words name, or the first range that one of their numbers is out of.
+/// The camera that words name, or that it is out of its limits.
 fn camera_of(words: &ViewWords) -> Result<Camera, RangeFault>
-    ensures { result ≡ camera_of (range_of_keep words.now.keep) words.now }
+    ensures { result ≡ camera_of None words.now }
 {
-    if let Some(fault) = range_of_keep(words.keep) {
-        return Err(fault);
-    }
     let kind = kind_from(words.kind);
     match Camera::new(
         kind,

@@ -1,6 +1,7 @@
 //! The commands that ask about a node file.
 
-ghost use Rattle.std.specs.Prelude.{◌≡◌, ◌≢◌, Option};
+ghost use Rattle.std.specs.Prelude.{◌≡◌, ◌≢◌, ◌≤◌, IfOk};
+ghost use Rattle.std.specs.Result.{result_err};
 ghost use Rattle.dev_traits.specs.Change.{change_of};
 ghost use Rattle.svo_base.specs.GridLimits.{is_positive, is_within};
 ghost use Rattle.svo_top.specs.Causes.{DeviceCause};
@@ -12,25 +13,32 @@ use crate::asking::{Question, ask};
 use crate::outcome::{Device, RangeFault, Status};
 use crate::reporting::Ending;
 use dev_traits::{ByteSink, ByteSource, NodeStore};
+use std::alloc::Global;
 use svo_words::Text;
 
 /// The most blocks of a file that are kept.
 const MAX_KEEP: i64 = 65_536;
 
-/// Asks a question about the file of a name, unless a number is out of a range that needs no file.
+/// How many blocks of a file are kept by a command that has no word for it.
+pub const USUAL_KEEP: usize = 64;
+
+/// Asks a question about the file of a name, with so many of its blocks kept, unless that number is out
+/// of its range.
 pub fn obey_question<I: ByteSource, O: ByteSink, N: NodeStore>(
-    range: Option<RangeFault>,
+    alloc: Global,
+    keep: Result<usize, RangeFault>,
     name: &Text,
     question: &Question,
     input: &mut I,
     out: &mut O,
     nodes: &mut N,
 ) -> Ending
-    ensures obeys { ObeysQuestion question.now name.now range
+    requires { IfOk keep (λ blocks. (1 ≤ blocks) × (blocks ≤ 65536)) }
+    ensures obeys { ObeysQuestion question.now name.now (result_err keep)
         (change_of I.rest I.faults input.old input.new)
         (change_of O.written O.faults out.old out.new)
         (change_of N.files N.faults nodes.old nodes.new) result }
-    ensures stops { StopsQuestion question.now range
+    ensures stops { StopsQuestion question.now (result_err keep)
         (change_of I.rest I.faults input.old input.new)
         (change_of O.written O.faults out.old out.new)
         (change_of N.files N.faults nodes.old nodes.new) (status_of result) }
@@ -39,19 +47,20 @@ pub fn obey_question<I: ByteSource, O: ByteSink, N: NodeStore>(
     ensures nodes { DeviceCause Device.Nodes (change_of N.files N.faults nodes.old nodes.new) (status_of result) }
     ensures unspilled { status_of result ≢ Status.Device Device.Scratch }
 {
-    match range {
-        Some(fault) => Ending::Stopped(Status::Range(fault)),
-        None => Ending::Stopped(ask(name, question, input, out, nodes)),
+    match keep {
+        Err(fault) => Ending::Stopped(Status::Range(fault)),
+        Ok(blocks) => Ending::Stopped(ask(alloc, blocks, name, question, input, out, nodes)),
     }
 }
 
-/// The range of a number of kept blocks, if it is out of that.
-pub fn range_of_keep(keep: i64) -> Option<RangeFault>
-    ensures { result ≡ range_of_keep keep }
+/// How many blocks are to be kept, or that the number is out of its range.
+pub fn keep_from(keep: i64) -> Result<usize, RangeFault>
+    ensures range { result_err result ≡ range_of_keep keep }
+    ensures few { IfOk result (λ blocks. (1 ≤ blocks) × (blocks ≤ 65536)) }
 {
     if (1..=MAX_KEEP).contains(&keep) {
-        None
+        Ok(keep as usize)
     } else {
-        Some(RangeFault::Keep)
+        Err(RangeFault::Keep)
     }
 }

@@ -15,7 +15,7 @@ use crate::explaining::explain;
 use crate::making::make;
 use crate::outcome::{Device, Status, UsageKind};
 use crate::picturing::{axis_from, show_view};
-use crate::questioning::{obey_question, range_of_keep};
+use crate::questioning::{USUAL_KEEP, keep_from, obey_question};
 use crate::reporting::{Ending, report};
 use crate::summing::sum;
 use dev_traits::{ByteSink, ByteSource, NodeStore, Scratch};
@@ -29,7 +29,8 @@ use svo_words::{Command, WordFault, read_words};
 /// `Done`: the command's work is done. `Usage`: the words are no command line. `Range`: a number among
 /// them, or one that a node file or the input bounds, is out of range. `Input`: the input was refused.
 /// `Refused`: the named file is no node file. `Device`: a device failed. `Memory`: memory ran out while
-/// the words were read or the room of a build was made; then nothing was read, put out or kept.
+/// the words were read, the room of a build was made, or the table of a file's kept blocks; then nothing
+/// was read, put out or kept.
 ///
 /// The scratch was not started yet.
 pub fn run<I: ByteSource, O: ByteSink, E: ByteSink, S: Scratch, N: NodeStore>(
@@ -138,28 +139,63 @@ fn obey<I: ByteSource, O: ByteSink, S: Scratch, N: NodeStore>(
         Command::Make(words) => make(words, out),
         Command::Sum(words) => sum(alloc, words, out, scratch),
         Command::Check(words) => {
-            obey_question(None, &words.nodes, &Question::Check, input, out, nodes)
+            let keep = Ok(USUAL_KEEP);
+            obey_question(
+                alloc,
+                keep,
+                &words.nodes,
+                &Question::Check,
+                input,
+                out,
+                nodes,
+            )
         }
         Command::Has(words) => {
+            let keep = Ok(USUAL_KEEP);
             let question = Question::Has(words.code);
-            obey_question(None, &words.nodes, &question, input, out, nodes)
+            obey_question(alloc, keep, &words.nodes, &question, input, out, nodes)
         }
         Command::Cells(words) => {
-            let range = range_of_keep(words.keep);
-            obey_question(range, &words.nodes, &Question::Cells, input, out, nodes)
+            let keep = keep_from(words.keep);
+            obey_question(
+                alloc,
+                keep,
+                &words.nodes,
+                &Question::Cells,
+                input,
+                out,
+                nodes,
+            )
         }
         Command::Slice(words) => {
-            let range = range_of_keep(words.keep);
+            let keep = keep_from(words.keep);
             let question = Question::Slice(axis_from(words.axis), words.at);
-            obey_question(range, &words.nodes, &question, input, out, nodes)
+            obey_question(alloc, keep, &words.nodes, &question, input, out, nodes)
         }
-        Command::View(words) => show_view(words, input, out, nodes),
+        Command::View(words) => show_view(alloc, words, input, out, nodes),
         Command::Lift(words) => {
-            obey_question(None, &words.nodes, &Question::Lift, input, out, nodes)
+            let keep = Ok(USUAL_KEEP);
+            obey_question(
+                alloc,
+                keep,
+                &words.nodes,
+                &Question::Lift,
+                input,
+                out,
+                nodes,
+            )
         }
         Command::Cast(words) => {
-            let range = range_of_keep(words.keep);
-            obey_question(range, &words.nodes, &Question::Cast, input, out, nodes)
+            let keep = keep_from(words.keep);
+            obey_question(
+                alloc,
+                keep,
+                &words.nodes,
+                &Question::Cast,
+                input,
+                out,
+                nodes,
+            )
         }
     }
 }

@@ -1,12 +1,13 @@
 -- A file that is loaded, or not.
-use Rattle.std.proofs.Common.{◌≤◌, refl, sym, subst, rules}
+use Rattle.std.proofs.Common.{◌≤◌, refl, sym, ◌∙◌, subst, rules}
 use Rattle.dev_traits.specs.Change.{change_of}
 use Rattle.dev_traits.specs.Files.{current_bytes}
+use Rattle.node_file.specs.FileView.{FileView}
 use Rattle.node_file.specs.Stored.{words_in}
 use Rattle.node_file.specs.Viewing.{bytes_of, file_of}
 use Rattle.node_file.proofs.Frames.{file_view}
 use Rattle.node_file.proofs.Loads.{is_loaded}
-use Rattle.svo_top.specs.Asking.{Asks, Ends}
+use Rattle.svo_top.specs.Asking.{Asks, AsksFile}
 use Rattle.svo_top.specs.Loaded.{status_of_load}
 use Rattle.svo_top.specs.declared.outcome.Status.{Status}
 use Rattle.svo_top.proofs.Named.{not_loaded, load_ends, asked}
@@ -26,13 +27,14 @@ pub returns : goal.returns
 returns g c =
     let input = change_of g.I.ByteSource.rest g.I.ByteSource.faults c.args.input.now c.ask_file.new.input in
     let out = change_of g.O.ByteSink.written g.O.ByteSink.faults c.args.out.now c.ask_file.new.out in
-    let between = g.N.NodeStore.faults c.new-nodes.result.store.now in
-    let after = g.N.NodeStore.faults c.ask_file.new.nodes.store.now in
     let nodes = c.new-nodes.result in
+    let blocks = c.new-blocks.result in
     let before = g.N.NodeStore.faults c.args.store.now in
-    let early : before ≤ between = subst (λ store. before ≤ g.N.NodeStore.faults store) (sym c.new-nodes.ensures.now) c.in-Ok.ensures.cause.later in
+    let between = g.N.NodeStore.faults blocks.nodes.store.now in
+    let after = g.N.NodeStore.faults c.ask_file.new.nodes.nodes.store.now in
+    let early : before ≤ between = subst (λ store. before ≤ g.N.NodeStore.faults store) (sym (c.new-blocks.ensures.now ∙ c.new-nodes.ensures.now)) c.in-Ok.ensures.cause.later in
     let shown =
-    is_loaded file_of c.args.name.now c.new-nodes.result c.in-Ok.frame (g.N.NodeStore.files c.args.store.now) (g.N.NodeStore.files c.read.new.store) (g.N.NodeStore.current c.read.new.store)
+    is_loaded file_of c.args.name.now nodes c.in-Ok.frame (g.N.NodeStore.files c.args.store.now) (g.N.NodeStore.files c.read.new.store) (g.N.NodeStore.current c.read.new.store)
     c.in-Ok.ensures.found c.in-Ok.ensures.files c.in-Ok.ensures.current
     (λ i. record {
       format = (c.new-nodes.ensures.frame i).format;
@@ -41,5 +43,6 @@ returns g c =
       words = words_in (current_bytes (g.N.NodeStore.files (c.new-nodes.ensures.now i)) (g.N.NodeStore.current (c.new-nodes.ensures.now i))) (c.new-nodes.ensures.frame i).totals.records;
     })
     c.in-Ok.ensures.some in
+    let asks = subst (λ (f : FileView). AsksFile c.args.question.now f input out between after c.ask_file.result) c.new-blocks.ensures.file c.ask_file.ensures.asks in
     asked file_of nodes c.args.question.now c.args.name.now input out _ between after c.ask_file.result (file_view (bytes_of nodes) nodes.frame nodes.format nodes.limits nodes.some) shown early c.ask_file.ensures.later
-    (search rules) c.ask_file.ensures.asks c.ask_file.ensures.ends
+    (search rules) asks c.ask_file.ensures.ends
