@@ -1,11 +1,11 @@
 -- The cells of a file, pushed one after another, and the file that is put out.
-use Rattle.std.proofs.Common.{◌≡◌, ℕ, ◌+◌, ◌-◌, ◌^◌, ◌<◌, ◌≤◌, List, [], ◌∷◌, ◌++◌, length, Option, None, Some, Result, Ok, Err, inl, inr, arith, refl, sym, ap, subst, ◌∙◌}
+use Rattle.std.proofs.Common.{◌≡◌, ℕ, ◌+◌, ◌-◌, ◌*◌, ◌^◌, ◌<◌, ◌≤◌, List, [], ◌∷◌, ◌++◌, length, Option, None, Some, Result, Ok, Err, inl, inr, arith, refl, sym, ap, subst, ◌∙◌}
 use Rattle.std.specs.Prelude.{IfSome, All}
 use Rattle.std.specs.List.Sorted.{IsStrictlyIncreasing}
 use Rattle.std.specs.Io.KnownBytes.{append_known}
 use Rattle.std.proofs.lemmas.Bool.{cases_eq}
 use Rattle.std.proofs.lemmas.Grind.{common_steps}
-use Rattle.std.proofs.lemmas.List.{map-append}
+use Rattle.std.proofs.lemmas.List.{map-append, length-map}
 use Rattle.std.proofs.lemmas.List.Elements.{All-nil, All-push, All-weaker, All-map}
 use Rattle.dev_traits.specs.declared.device.ByteSink.{Ghosts}
 use Rattle.svo_base.specs.GridShape.{GridShape}
@@ -223,6 +223,19 @@ none_pushed {g = g} grid start queues writer queued deep begun unwritten none = 
   last = λ some. absurd (omega (arith, some, queued.cells));
 }
 
+-- ---- moves
+
+-- a cell more takes at most as many moves as the queues are deep
+pub more_moves : (now next begun depth deep none many more : ℕ) → now + depth * none ≤ begun + depth * many → deep ≡ depth → next ≤ now + deep → more ≡ many + 1
+    → next + depth * none ≤ begun + depth * more
+more_moves now next begun depth deep none many more few same moved one =
+    subst (λ k. next + depth * none ≤ begun + depth * k) (sym one) (omega (arith, few, same, moved))
+
+-- and the end as many more
+moves_at : (begun pushed ended d e f none m n : ℕ) → d ≡ e → f ≡ d → m ≡ n → pushed + d * none ≤ begun + d * m → ended ≤ pushed + f → ended ≤ begun + e * (n + 1)
+moves_at begun pushed ended d e f none m n deep same many first last =
+    subst (λ k. ended ≤ begun + k * (n + 1)) deep (subst (λ k. ended ≤ begun + d * (k + 1)) many (omega (arith, first, same, last)))
+
 -- ---- the end
 
 -- what is said of an answer of told words
@@ -301,6 +314,14 @@ module _ {O : Type 0} {g : Ghosts O} (file : FileView) (start : Option (List ℕ
         of_whole (λ cells. closed ≡ append_known start (image_of 2 file.grid cells))
         (whole_file start (append_known start (header_of 2 file.grid)) (given ended) closed file.grid all.cells all_given.more ended.records totals.cells
         refl all_given.grown put words_are records_are (ap (λ (t : Totals). t.cells) totals_are))
+
+  -- they took few moves
+  pub few_moves : (begun pushed ended depth none : ℕ) → queues.depth ≡ depth → pushed + depth * none ≤ begun + depth * queues.cells → ended ≤ pushed + queues.depth
+      → IfSome file.words (λ words. (cells : List Cell) → StandFor file.format file.grid.depth words cells → ended ≤ begun + file.grid.depth * (length cells + 1))
+  few_moves begun pushed ended depth none same first last =
+      of_whole (λ cells. ended ≤ begun + file.grid.depth * (length cells + 1))
+      (moves_at begun pushed ended depth file.grid.depth queues.depth none queues.cells (length all.cells) (sym same ∙ all.pushed.depth) same
+      (all.pushed.queued.holds.cells ∙ length-map all.cells (λ (cell : Cell). record { node = cell.code; word = 1 + 256 * cell.face })) first last)
 
 -- what the sink holds under another name
 pub put_as : (T : Type 0) (file : FileView) (start now after : Option (List ℕ)) (result : Result T AnswerStop) → now ≡ after → PutsImage file start after result → PutsImage file start now result

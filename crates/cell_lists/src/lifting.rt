@@ -1,6 +1,6 @@
 //! The file of format 2 of a file's cells.
 
-ghost use Rattle.std.specs.Prelude.{◌≡◌, ℕ, ◌+◌, ◌*◌, ◌^◌, ◌≤◌, List, length, IfSome};
+ghost use Rattle.std.specs.Prelude.{◌≡◌, ℕ, ◌+◌, ◌*◌, ◌^◌, ◌≤◌, List, length, IfSome, OnOk};
 ghost use Rattle.octree_specs.specs.Cells.{Cell};
 ghost use Rattle.octree_specs.specs.Formats.{StandFor};
 ghost use Rattle.octree_specs.specs.OctreeFile.{image_of};
@@ -18,7 +18,8 @@ use svo_base::{Grid, Steps};
 
 /// Puts out the node file of format 2 of a file's grid, cells and faces. Of a file of format 1, which
 /// keeps no faces, each cell has the face 0. It takes no memory but what lies on the stack, and counts
-/// the numbers of words read and of entries moved in the queues.
+/// the numbers of words read and of entries moved in the queues: a node file takes at most as many
+/// moves as the octree is deep for each cell, and as many more at the end.
 ///
 /// # Errors
 ///
@@ -34,6 +35,8 @@ pub fn lift<R: Records, O: ByteSink, L: Ledger, M: Ledger>(
     ensures told { IfSome (R.file nodes.old).words (λ words. (cells : List Cell) → StandFor (R.file nodes.old).format (R.file nodes.old).grid.depth words cells
         → Puts (O.written out.old) (O.written out.new) (image_of 2 (R.file nodes.old).grid cells) result) }
     ensures refused { StopsAtNoCell (R.file nodes.old).words (R.file nodes.old).totals.records (R.file nodes.old).grid.depth result }
+    ensures moves { OnOk result (IfSome (R.file nodes.old).words (λ words. (cells : List Cell) → StandFor (R.file nodes.old).format (R.file nodes.old).grid.depth words cells
+        → moves.new ≤ moves.old + (R.file nodes.old).grid.depth * (length cells + 1))) }
     ensures looked { R.looked nodes.new + reads.old ≤ R.looked nodes.old + reads.new }
     ensures same { R.file nodes.new ≡ R.file nodes.old }
     ensures lender { R.lender nodes.new ≡ R.lender nodes.old }
@@ -78,6 +81,8 @@ fn lift_cells<R: Records, O: ByteSink, L: Ledger, M: Ledger>(
     ensures told { IfSome (R.file nodes.old).words (λ words. (cells : List Cell) → StandFor (R.file nodes.old).format (R.file nodes.old).grid.depth words cells
         → Puts (O.written out.old) (O.written out.new) (image_of 2 (R.file nodes.old).grid cells) result) }
     ensures refused { StopsAtNoCell (R.file nodes.old).words (R.file nodes.old).totals.records (R.file nodes.old).grid.depth result }
+    ensures moves { OnOk result (IfSome (R.file nodes.old).words (λ words. (cells : List Cell) → StandFor (R.file nodes.old).format (R.file nodes.old).grid.depth words cells
+        → moves.new ≤ moves.old + (R.file nodes.old).grid.depth * (length cells + 1))) }
     ensures looked { R.looked nodes.new + reads.old ≤ R.looked nodes.old + reads.new }
     ensures same { R.file nodes.new ≡ R.file nodes.old }
     ensures lender { R.lender nodes.new ≡ R.lender nodes.old }

@@ -1,6 +1,6 @@
 //! The cells of a file, pushed into the queues of a new one.
 
-ghost use Rattle.std.specs.Prelude.{◌≡◌, ℕ, ◌+◌, ◌^◌, ◌<◌, ◌≤◌, [], List, Option, IfSome, OnOk};
+ghost use Rattle.std.specs.Prelude.{◌≡◌, ℕ, ◌+◌, ◌*◌, ◌^◌, ◌<◌, ◌≤◌, [], List, Option, IfSome, OnOk};
 ghost use Rattle.octree_specs.specs.Cells.{Cell};
 ghost use Rattle.octree_specs.specs.Formats.{StandFor};
 ghost use Rattle.node_check.specs.Cursors.{IsOn};
@@ -15,7 +15,8 @@ use std::sync::ledger::Ledger;
 use svo_base::Steps;
 
 /// Pushes all cells that a walk gives, each with its face. At every answer the sink holds a front of
-/// the file of the cells that were pushed, whatever cells follow.
+/// the file of the cells that were pushed, whatever cells follow. A cell takes at most as many moves
+/// as the octree is deep.
 pub fn push_cells<R: Records, O: ByteSink, L: Ledger, M: Ledger>(
     nodes: &mut R,
     walk: &mut CellWalk,
@@ -34,6 +35,8 @@ pub fn push_cells<R: Records, O: ByteSink, L: Ledger, M: Ledger>(
     ensures looked { R.looked nodes.new + reads.old ≤ R.looked nodes.old + reads.new }
     ensures same { R.file nodes.new ≡ R.file nodes.old }
     ensures lender { R.lender nodes.new ≡ R.lender nodes.old }
+    ensures moves { OnOk result (moves.new + queues.old.depth * queues.old.cells ≤ moves.old + queues.old.depth * queues.new.cells) }
+    ensures depth { queues.new.depth ≡ queues.old.depth }
     ensures sink { writer.new.sink.ghost_name ≡ writer.old.sink.ghost_name }
     ensures cause { HasStopCause (O.faults writer.old.sink.now) (O.faults writer.new.sink.now) (R.faults nodes.old) (R.faults nodes.new) result }
 {

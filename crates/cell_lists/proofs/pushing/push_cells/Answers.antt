@@ -3,7 +3,7 @@ use Rattle.std.proofs.Common.{◌≡◌, ◌+◌, ◌-◌, ◌^◌, ◌<◌, ◌
 use Rattle.std.specs.Prelude.{IfSome}
 use Rattle.node_check.specs.Cursors.{IsOn}
 use Rattle.node_file.specs.FileView.{FileView}
-use Rattle.cell_lists.proofs.Lifts.{NextsFaced, pushes_none, pushes_cell, push_refused, pushes_first, pushes_all}
+use Rattle.cell_lists.proofs.Lifts.{NextsFaced, more_moves, pushes_none, pushes_cell, push_refused, pushes_first, pushes_all}
 use Rattle.cell_lists.proofs.pushing.push_cells.Goals as goal
 
 pub cells-init : goal.cells-init
@@ -12,6 +12,8 @@ cells-init g c = record {
   from = omega (arith, c.requires.from);
   pushed = λ start has. pushes_none (g.R.Records.file c.args.nodes.now) start c.args.walk.now.from c.args.queues.now c.args.writer.now c.requires.from has;
   looked = omega arith;
+  moves = omega arith;
+  deep = refl;
   same = refl;
   lender = refl;
   sink = refl;
@@ -62,6 +64,9 @@ cells-preserved g c =
           (record { queued = c.in-Ok.ensures.queued; records = c.in-Ok.ensures.records; depth = c.push.ensures.depth; last = c.in-Ok.ensures.last; front = c.push.ensures.front })
           (before.pushed start has);
       looked = omega (arith, before.looked, c.next_faced.ensures.looked);
+      moves = more_moves c.cells.moves c.push.new.moves c.args.moves.now c.args.queues.now.depth c.cells.queues.depth c.args.queues.now.cells c.cells.queues.cells c.push.new.self.cells
+          before.moves before.deep c.push.ensures.moves c.in-Ok.ensures.cells;
+      deep = c.push.ensures.depth ∙ before.deep;
       same = c.next_faced.ensures.same ∙ before.same;
       lender = c.next_faced.ensures.lender ∙ before.lender;
       sink = c.push.ensures.sink ∙ before.sink;

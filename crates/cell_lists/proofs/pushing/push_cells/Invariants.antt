@@ -1,5 +1,5 @@
 -- The cells below a code were pushed. The codes still to come are fewer each time.
-use Rattle.std.proofs.Common.{◌≡◌, ℕ, ◌+◌, ◌-◌, ◌^◌, ◌≤◌, List, []}
+use Rattle.std.proofs.Common.{◌≡◌, ℕ, ◌+◌, ◌-◌, ◌*◌, ◌^◌, ◌≤◌, List, []}
 use Rattle.std.specs.Prelude.{Option}
 use Rattle.node_check.specs.Cursors.{IsOn}
 use Rattle.cell_lists.specs.Lifted.{HasPushed}
@@ -13,6 +13,8 @@ invariant-cells g l = record {
   pushed : (start : Option (List ℕ)) → HasPushed (g.R.Records.file l.fn.nodes).grid start 0 [] l.initial.queues l.initial.writer
       → PushesOn (g.R.Records.file l.fn.nodes) start l.walk.from l.queues l.writer;
   looked : g.R.Records.looked l.nodes + l.fn.reads ≤ g.R.Records.looked l.fn.nodes + l.reads;
+  moves : l.moves + l.initial.queues.depth * l.initial.queues.cells ≤ l.fn.moves + l.initial.queues.depth * l.queues.cells;
+  deep : l.queues.depth ≡ l.initial.queues.depth;
   same : g.R.Records.file l.nodes ≡ g.R.Records.file l.fn.nodes;
   lender : g.R.Records.lender l.nodes ≡ g.R.Records.lender l.fn.nodes;
   sink : l.writer.sink.ghost_name ≡ l.initial.writer.sink.ghost_name;
