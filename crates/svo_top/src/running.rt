@@ -133,69 +133,39 @@ fn obey<I: ByteSource, O: ByteSink, S: Scratch, N: NodeStore>(
     ensures write { DeviceCause Device.Write (change_of O.written O.faults out.old out.new) (status_of result) }
     ensures nodes { DeviceCause Device.Nodes (change_of N.files N.faults nodes.old nodes.new) (status_of result) }
 {
+    let usual = Ok(USUAL_KEEP);
     match command {
         Command::Build(words) => build(alloc, words, input, out, scratch),
         Command::Why(words) => explain(words, out),
         Command::Make(words) => make(words, out),
         Command::Sum(words) => sum(alloc, words, out, scratch),
+        Command::View(words) => show_view(alloc, words, input, out, nodes),
         Command::Check(words) => {
-            let keep = Ok(USUAL_KEEP);
-            obey_question(
-                alloc,
-                keep,
-                &words.nodes,
-                &Question::Check,
-                input,
-                out,
-                nodes,
-            )
+            let question = Question::Check;
+            obey_question(alloc, usual, &words.nodes, &question, input, out, nodes)
         }
         Command::Has(words) => {
-            let keep = Ok(USUAL_KEEP);
             let question = Question::Has(words.code);
-            obey_question(alloc, keep, &words.nodes, &question, input, out, nodes)
+            obey_question(alloc, usual, &words.nodes, &question, input, out, nodes)
+        }
+        Command::Lift(words) => {
+            let question = Question::Lift;
+            obey_question(alloc, usual, &words.nodes, &question, input, out, nodes)
         }
         Command::Cells(words) => {
             let keep = keep_from(words.keep);
-            obey_question(
-                alloc,
-                keep,
-                &words.nodes,
-                &Question::Cells,
-                input,
-                out,
-                nodes,
-            )
+            let question = Question::Cells;
+            obey_question(alloc, keep, &words.nodes, &question, input, out, nodes)
+        }
+        Command::Cast(words) => {
+            let keep = keep_from(words.keep);
+            let question = Question::Cast;
+            obey_question(alloc, keep, &words.nodes, &question, input, out, nodes)
         }
         Command::Slice(words) => {
             let keep = keep_from(words.keep);
             let question = Question::Slice(axis_from(words.axis), words.at);
             obey_question(alloc, keep, &words.nodes, &question, input, out, nodes)
-        }
-        Command::View(words) => show_view(alloc, words, input, out, nodes),
-        Command::Lift(words) => {
-            let keep = Ok(USUAL_KEEP);
-            obey_question(
-                alloc,
-                keep,
-                &words.nodes,
-                &Question::Lift,
-                input,
-                out,
-                nodes,
-            )
-        }
-        Command::Cast(words) => {
-            let keep = keep_from(words.keep);
-            obey_question(
-                alloc,
-                keep,
-                &words.nodes,
-                &Question::Cast,
-                input,
-                out,
-                nodes,
-            )
         }
     }
 }
