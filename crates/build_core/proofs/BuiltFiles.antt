@@ -1,5 +1,6 @@
 -- From a mesh on scratch and a file that was put to what the whole build answers.
 use Rattle.std.proofs.Common.{◌≡◌, ℕ, ◌+◌, ◌-◌, ◌^◌, ◌≤◌, ◌<◌, arith, All, List, refl, sym, ap, subst, inl, inr, Option, None, Some, Result, Ok, Err, MatchResult, IfSome, ⊎_elim}
+use Rattle.std.specs.Prelude.{IfErr}
 use Rattle.std.specs.Prelude.{Bool}
 use Rattle.std.proofs.lemmas.Bool.{cases_lt}
 use Rattle.grid_parts.proofs.PartCells.{of_any}
@@ -22,7 +23,7 @@ use Rattle.build_core.specs.declared.faults.NodesFault.{NodesFault}
 use Rattle.build_core.specs.declared.faults.NodesFault.TheVariants as nodes
 use Rattle.build_core.specs.declared.jobs.Job.{Job}
 use Rattle.build_core.specs.declared.spilling.Spilled.{Spilled}
-use Rattle.build_core.specs.Building.{Devices, HasBuilt, HasBegun, StopsBuild, IsUnwritten, spill_fault, nodes_fault}
+use Rattle.build_core.specs.Building.{Devices, HasBuilt, HasBegun, StopsBuild, StopsInTime, StepsFew, IsUnwritten, spill_fault, nodes_fault}
 use Rattle.build_core.specs.Meshes.{AreReadBack, SpillsText, TellsStop}
 use Rattle.build_core.specs.PutFiles.{HasPutFile, HasPutFront}
 use Rattle.build_core.specs.ScratchParts.{HasPartsOf, tests_of_parts}
@@ -91,9 +92,9 @@ faced_cells grid faced cells faces are = record {
   faces = All-weaker (λ (cell : Cell). IsLeastFace grid faced cell.code cell.face) (λ (cell : Cell). cell.face ≤ 2 ^ 32 - 2) (λ cell least. face_fits grid faced cell.code cell.face faces least) cells are.faces;
 }
 
-begun : (job : Job) (d : Devices) (spilled : Spilled) (streams : Option (List (List ℕ))) → d.streams ≡ streams → IsGrid spilled.grid → SpillsText job d.read_before d.read_after streams spilled
-    → HasPutFront spilled.grid job.plan.split streams d.written_before d.written_after → HasBegun job d
-begun job d spilled None told limits text front = record {
+begun : (job : Job) (d : Devices) (spilled : Spilled) (moves moved : ℕ) (streams : Option (List (List ℕ))) → d.streams ≡ streams → IsGrid spilled.grid → SpillsText job d.read_before d.read_after streams spilled
+    → HasPutFront spilled.grid job.plan.split streams d.written_before d.written_after moves moved → HasBegun job d
+begun job d spilled moves moved None told limits text front = record {
   mesh = text.mesh;
   grid = spilled.grid;
   cells = front.some.cells;
@@ -104,7 +105,7 @@ begun job d spilled None told limits text front = record {
   filled = subst (λ s. IfSome s (λ _. AreFilledCells spilled.grid (faced_of text.mesh) front.some.cells)) (sym told) tt;
   front = front.some.front;
 }
-begun job d spilled (Some streams) told limits text front =
+begun job d spilled moves moved (Some streams) told limits text front =
     let faced = faced_of text.mesh in
     let of = front.filled faced (has_parts spilled.grid job.plan.split text.mesh streams text.is.read_back text.is.numbered) in
     record {
@@ -119,17 +120,53 @@ begun job d spilled (Some streams) told limits text front =
       front = of.front;
     }
 
+-- with few moves and tests
+stepped : (job : Job) (d : Devices) (spilled : Spilled) (moves moved tests tested : ℕ) (streams : Option (List (List ℕ))) → d.streams ≡ streams → IsGrid spilled.grid → SpillsText job d.read_before d.read_after streams spilled
+    → HasPutFront spilled.grid job.plan.split streams d.written_before d.written_after moves moved
+    → ((test : Faced → ℕ → ℕ → Bool) → TestEachParcel spilled.grid test → (faced : List Faced) → HasPartsOf spilled.grid job.plan.split streams faced
+    → tested ≤ tests + tests_of_parts spilled.grid job.plan.split (8 ^ job.plan.split) test faced)
+    → StepsFew job d moves moved tests tested
+unfolding begun
+stepped job d spilled moves moved tests tested None told limits text front few = record {
+  begun = begun job d spilled moves moved None told limits text front;
+  few_moves = front.some.few_moves;
+  few_tests = subst (λ s. IfSome s (λ _. (test : Faced → ℕ → ℕ → Bool) → TestEachParcel spilled.grid test
+      → tested ≤ tests + tests_of_parts spilled.grid job.plan.split (8 ^ job.plan.split) test (faced_of text.mesh))) (sym told) tt;
+}
+stepped job d spilled moves moved tests tested (Some streams) told limits text front few =
+    let faced = faced_of text.mesh in
+    let parts = has_parts spilled.grid job.plan.split text.mesh streams text.is.read_back text.is.numbered in
+    record {
+      begun = begun job d spilled moves moved (Some streams) told limits text front;
+      few_moves = (front.filled faced parts).few_moves;
+      few_tests = subst (λ s. IfSome s (λ _. (test : Faced → ℕ → ℕ → Bool) → TestEachParcel spilled.grid test
+          → tested ≤ tests + tests_of_parts spilled.grid job.plan.split (8 ^ job.plan.split) test faced)) (sym told) (λ test each. few test each faced parts);
+    }
+
 -- the nodes were not all put out
-pub nodes_stop : (job : Job) (d : Devices) (spilled : Spilled) (stop : NodesFault) → IsGrid spilled.grid → SpillsText job d.read_before d.read_after d.streams spilled
-    → HasPutFront spilled.grid job.plan.split d.streams d.written_before d.written_after → StopsBuild job d (nodes_fault stop)
-nodes_stop job d spilled nodes.Scratch limits text front = inr (begun job d spilled d.streams refl limits text front)
-nodes_stop job d spilled nodes.Sink limits text front = begun job d spilled d.streams refl limits text front
+pub nodes_stop : (job : Job) (d : Devices) (spilled : Spilled) (moves moved : ℕ) (stop : NodesFault) → IsGrid spilled.grid → SpillsText job d.read_before d.read_after d.streams spilled
+    → HasPutFront spilled.grid job.plan.split d.streams d.written_before d.written_after moves moved → StopsBuild job d (nodes_fault stop)
+nodes_stop job d spilled moves moved nodes.Scratch limits text front = inr (begun job d spilled moves moved d.streams refl limits text front)
+nodes_stop job d spilled moves moved nodes.Sink limits text front = begun job d spilled moves moved d.streams refl limits text front
+
+pub nodes_in_time : (job : Job) (d : Devices) (spilled : Spilled) (moves moved tests tested : ℕ) (stop : NodesFault) → IsGrid spilled.grid → SpillsText job d.read_before d.read_after d.streams spilled
+    → HasPutFront spilled.grid job.plan.split d.streams d.written_before d.written_after moves moved
+    → ((test : Faced → ℕ → ℕ → Bool) → TestEachParcel spilled.grid test → (faced : List Faced) → HasPartsOf spilled.grid job.plan.split d.streams faced
+    → tested ≤ tests + tests_of_parts spilled.grid job.plan.split (8 ^ job.plan.split) test faced)
+    → StopsInTime job d moves moved tests tested (nodes_fault stop)
+nodes_in_time job d spilled moves moved tests tested nodes.Scratch limits text front few = inr (stepped job d spilled moves moved tests tested d.streams refl limits text front few)
+nodes_in_time job d spilled moves moved tests tested nodes.Sink limits text front few = stepped job d spilled moves moved tests tested d.streams refl limits text front few
 
 -- the mesh was not put on scratch
 pub spill_stop : (job : Job) (d : Devices) (stop : SpillFault) → TellsStop job d.read_before d.read_after stop → IsUnwritten d → StopsBuild job d (spill_fault stop)
 spill_stop job d (spill.Text (ply.Refused kind place)) tells none = (tells, none)
 spill_stop job d (spill.Text ply.ReadFault) tells none = none
 spill_stop job d spill.Scratch tells none = inl none
+
+pub spill_in_time : (job : Job) (d : Devices) (moves tests : ℕ) (stop : SpillFault) → StopsInTime job d moves moves tests tests (spill_fault stop)
+spill_in_time job d moves tests (spill.Text (ply.Refused kind place)) = (refl, refl)
+spill_in_time job d moves tests (spill.Text ply.ReadFault) = (refl, refl)
+spill_in_time job d moves tests spill.Scratch = inl (refl, refl)
 
 -- what `?` answers
 build_stop_is : {A : Type 0} (result : Result A BuildFault) (stop : BuildFault) → IsErr result × IsErrAnd result (λ e. e ≡ stop) → result ≡ Err stop
@@ -139,3 +176,7 @@ build_stop_is (Err e) stop h = ap Err h.1
 pub build_answer : {A : Type 0} (good : A → Type 0) (job : Job) (d : Devices) (result : Result A BuildFault) (stop : BuildFault) → IsErr result × IsErrAnd result (λ e. e ≡ stop)
     → StopsBuild job d stop → MatchResult result good (StopsBuild job d)
 build_answer good job d result stop is why = subst (λ r. MatchResult r good (StopsBuild job d)) (sym (build_stop_is result stop is)) why
+
+pub late_answer : {A : Type 0} (job : Job) (d : Devices) (moves moved tests tested : ℕ) (result : Result A BuildFault) (stop : BuildFault) → IsErr result × IsErrAnd result (λ e. e ≡ stop)
+    → StopsInTime job d moves moved tests tested stop → IfErr result (StopsInTime job d moves moved tests tested)
+late_answer job d moves moved tests tested result stop is few = subst (λ r. IfErr r (StopsInTime job d moves moved tests tested)) (sym (build_stop_is result stop is)) few

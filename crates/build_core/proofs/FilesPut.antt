@@ -2,12 +2,12 @@
 use Rattle.std.proofs.Common.{◌≡◌, ℕ, ◌+◌, ◌-◌, ◌*◌, ◌^◌, ◌<◌, ◌≤◌, List, [], ◌++◌, length, arith, refl, sym, subst, ap, ◌∙◌}
 use Rattle.std.specs.Prelude.{Option}
 use Rattle.std.specs.Io.KnownBytes.{append_known}
-use Rattle.std.proofs.lemmas.List.{length-map}
+use Rattle.std.proofs.lemmas.List.{length-append}
 use Rattle.std.proofs.lemmas.List.Elements.{All-nil, All-weaker}
 use Rattle.dev_traits.specs.declared.device.ByteSink.{Ghosts}
 use Rattle.svo_base.specs.GridShape.{GridShape}
 use Rattle.octree_specs.specs.Cells.{Cell, AreFacedCells}
-use Rattle.octree_specs.specs.Formats.{file_words, face_leaves}
+use Rattle.octree_specs.specs.Formats.{file_words}
 use Rattle.octree_specs.specs.OctreeFile.{header_of, trailer_of, image_of}
 use Rattle.grid_parts.proofs.Growing.{none_filled}
 use Rattle.node_file.specs.declared.records.Totals.{Totals}
@@ -59,30 +59,35 @@ faced_ascend grid cells are = record { ascending = are.ascending; inside = are.i
 
 -- ---- a fault before all parts were pushed
 
-pub front_left : (grid : GridShape) (split : ℕ) (start written : Option (List ℕ)) (known : Option (List (List ℕ)))
-    → LeavesFront grid start 0 (8 ^ grid.depth) [] (HasPartsOf grid split known) written → HasPutFront grid split known start written
-front_left grid split start written known leaves = record {
+pub front_left : (grid : GridShape) (split : ℕ) (start written : Option (List ℕ)) (known : Option (List (List ℕ))) (moves moved : ℕ)
+    → LeavesFront grid start 0 (8 ^ grid.depth) [] (HasPartsOf grid split known) written moves moved → HasPutFront grid split known start written moves moved
+front_left grid split start written known moves moved leaves = record {
   some =
       let are : AreFacedCells grid.depth leaves.more = faced_cells grid leaves.bound leaves.more leaves.within leaves.holds.below in
-      record { cells = leaves.more; are = are; front = front_now grid leaves.more start written (faced_ascend grid leaves.more are) leaves.holds.front };
+      record { cells = leaves.more; are = are; front = front_now grid leaves.more start written (faced_ascend grid leaves.more are) leaves.holds.front; few_moves = omega (arith, leaves.few_moves) };
   filled = λ faced parts.
       let later = all_later grid faced leaves.bound leaves.more leaves.within (leaves.filled faced parts (none_filled grid faced)) in
       let ascend : Ascend grid.depth (leaves.more ++ later.0) = record { ascending = later.1.ascending; inside = later.1.inside } in
-      record { cells = leaves.more ++ later.0; are = later.1; front = leaves.holds.front.follows later.0 ascend };
+      let all : grid.depth * length (leaves.more ++ later.0) ≡ grid.depth * length leaves.more + grid.depth * length later.0 = ap (λ n. grid.depth * n) (length-append leaves.more later.0) ∙ omega arith in
+      record { cells = leaves.more ++ later.0; are = later.1; front = leaves.holds.front.follows later.0 ascend; few_moves = omega (arith, leaves.few_moves, all) };
 }
 
 -- ---- all parts were pushed
 
 module _ {O : Type 0} {g : Ghosts O} (grid : GridShape) (split : ℕ) (told : Option (List (List ℕ))) (start : Option (List ℕ)) (queues : LevelQueues) (writer : NodeWriter O g)
-    (on : PushesOn grid start 0 (8 ^ grid.depth) [] (HasPartsOf grid split told) queues writer) where
+    (moves middle : ℕ) (on : PushesOn grid start 0 (8 ^ grid.depth) [] (HasPartsOf grid split told) queues writer moves middle) where
   are_cells : AreFacedCells grid.depth on.more
   are_cells = faced_cells grid (8 ^ grid.depth) on.more (omega arith) on.pushed.holds.below
 
+  -- the end takes at most a move a level, as each of them did
+  all_few : (moved : ℕ) → moved ≤ middle + queues.depth → moved ≤ moves + grid.depth * (length on.more + 1)
+  all_few moved last = omega (arith, on.few_moves, last, on.pushed.depth)
+
   -- a front of their file
-  pub front_of_all : (written : Option (List ℕ)) → GrewByFront start written (image_of 2 grid on.more) → HasPutFront grid split told start written
-  front_of_all written front = record {
-    some = record { cells = on.more; are = are_cells; front = front };
-    filled = λ faced parts. record { cells = on.more; are = on.filled faced parts (none_filled grid faced); front = front };
+  pub front_of_all : (written : Option (List ℕ)) (moved : ℕ) → moved ≤ middle + queues.depth → GrewByFront start written (image_of 2 grid on.more) → HasPutFront grid split told start written moves moved
+  front_of_all written moved last front = record {
+    some = record { cells = on.more; are = are_cells; front = front; few_moves = all_few moved last };
+    filled = λ faced parts. record { cells = on.more; are = on.filled faced parts (none_filled grid faced); front = front; few_moves = all_few moved last };
   }
 
   -- after the last words were given, or refused
@@ -119,17 +124,15 @@ module _ {O : Type 0} {g : Ghosts O} (grid : GridShape) (split : ℕ) (told : Op
         all_given.grown words_are records_are (ap (λ (t : Totals). t.cells) totals_are) close
 
     -- the whole file
-    pub all_put : (closed : Option (List ℕ)) (moves middle moved : ℕ) → closed ≡ append_known (given ended) (trailer_of 2 ended.records totals.cells)
-        → middle ≤ moves + grid.depth * queues.cells → moved ≤ middle + queues.depth → HasPutFile grid split told start closed totals moves moved
-    all_put closed moves middle moved put few last =
-        let long : length (face_leaves on.more) ≡ length on.more = length-map on.more (λ (cell : Cell). record { node = cell.code; word = 1 + 256 * cell.face }) in
-        let many : grid.depth * queues.cells ≡ grid.depth * length on.more = ap (λ n. grid.depth * n) (on.pushed.queued.holds.cells ∙ long) in
+    pub all_put : (closed : Option (List ℕ)) (moved : ℕ) → closed ≡ append_known (given ended) (trailer_of 2 ended.records totals.cells)
+        → moved ≤ middle + queues.depth → HasPutFile grid split told start closed totals moves moved
+    all_put closed moved put last =
         record {
           cells = on.more;
           are = are_cells;
           written = whole_file start (append_known start (header_of 2 grid)) (given ended) closed grid on.more all_given.more ended.records totals.cells
               refl all_given.grown put words_are records_are (ap (λ (t : Totals). t.cells) totals_are);
           totals_are = totals_are ∙ (λ i. record { records = length (file_words 2 (on.pushed.depth i) on.more); cells = length on.more });
-          few_moves = omega (arith, few, last, many, on.pushed.depth);
+          few_moves = all_few moved last;
           filled = λ faced parts. on.filled faced parts (none_filled grid faced);
         }

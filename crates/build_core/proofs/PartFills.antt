@@ -1,21 +1,22 @@
 -- The slots of a part, from its stream: they are those that all triangles give its cells, and its tests are few.
-use Rattle.std.proofs.Common.{◌≡◌, ℕ, zero, suc, ◌+◌, ◌-◌, ◌*◌, ◌^◌, ◌<◌, ◌≤◌, min, List, [], ◌∷◌, map, filter, get_or, Bool, inl, inr, arith, refl, sym, subst, ap, ◌∙◌, add-one, mul-le-mul_right, lit<}
+use Rattle.std.proofs.Common.{◌≡◌, ℕ, zero, suc, ◌+◌, ◌-◌, ◌*◌, ◌^◌, ◌<◌, ◌≤◌, min, List, [], ◌∷◌, ◌++◌, map, filter, get_or, Bool, inl, inr, arith, refl, sym, subst, ap, ◌∙◌, add-one, mul-le-mul_right, lit<}
 use Rattle.std.specs.Prelude.{Option, IfSome, All}
 use Rattle.std.specs.List.{sum_by}
 use Rattle.std.proofs.lemmas.Bool.{cases_Bool}
 use Rattle.std.proofs.lemmas.Nat.{pow-add}
 use Rattle.std.proofs.Math.Nat.{pow-le-pow_right}
 use Rattle.std.proofs.lemmas.List.Elements.{All-nil, All-cons, All-head, All-tail}
-use Rattle.std.proofs.lemmas.List.Sums.{sum_by-cons}
+use Rattle.std.proofs.lemmas.List.Sums.{sum_by-cons, sum_by-append}
+use Rattle.svo_base.specs.declared.grids.TheConstants.{MAX_DEPTH}
 use Rattle.svo_base.specs.GridShape.{GridShape}
 use Rattle.octree_specs.specs.FacedTriangles.{Faced}
 use Rattle.octree_specs.specs.FilledCells.{MeetsCell, IsLeastFace, IsSlotOf}
 use Rattle.octree_specs.specs.Parcels.{HoldAlike}
-use Rattle.octree_specs.specs.Parts.{part_with, is_in_part, part_of}
+use Rattle.octree_specs.specs.Parts.{part_with, is_in_part, part_of, passing}
 use Rattle.morton_code.proofs.Children.{are_ranges}
 use Rattle.grid_parts.proofs.PartCells.{fills_part, of_any}
 use Rattle.tri_partition.specs.PartStreams.{part_stream, parcels_in}
-use Rattle.morton_scan.specs.FilledParts.{HasSlotsFor, limited}
+use Rattle.morton_scan.specs.FilledParts.{HasSlotsFor, limited, tests_of}
 use Rattle.morton_scan.specs.Putting.{first_of_part}
 use Rattle.build_core.specs.Pushing.{AreSlotsOf}
 use Rattle.build_core.specs.ScratchParts.{HasPartOf}
@@ -86,6 +87,18 @@ pub slots_narrow : (grid : GridShape) (split part : ℕ) (parcels : List Faced) 
 slots_narrow grid split part parcels slots codes same has place within =
     slot_narrow grid parcels (first_of_part grid split part + place) (get_or slots place 0) (has place (subst (λ n. place < n) same within))
 
+-- ---- tests
+
+-- the first parcels of a part's stream take no more tests than all triangles that reach the part
+pub part_tests : (grid : GridShape) (split part : ℕ) (told : Option (List (List ℕ))) (parcels : List Faced) (test : Faced → ℕ → ℕ → Bool) (faced : List Faced)
+    → IfSome told (λ streams. (rest : List Faced) × (parcels_in (part_stream streams part) ≡ parcels ++ rest)) → HasPartOf grid split part told faced
+    → tests_of grid split part test parcels ≤ tests_of grid split part test (part_of grid split part faced)
+part_tests grid split part told parcels test faced front known =
+    let f : Faced → ℕ = λ x. 1 + 8 * passing (test x) (grid.depth - split) part in
+    let some = subst (λ o. IfSome o (λ streams. (rest : List Faced) × (parcels_in (part_stream streams part) ≡ parcels ++ rest))) known.are_told front in
+    let all : sum_by f (parcels_in (part_stream known.streams part)) ≡ sum_by f parcels + sum_by f some.0 = ap (sum_by f) some.1 ∙ sum_by-append f parcels some.0 in
+    omega (arith, all, known.parcels f)
+
 -- ---- codes
 
 -- the cells of a part are the grid's
@@ -96,7 +109,7 @@ part_inside depth split part within below =
     let less : (part + 1) * 8 ^ (depth - split) ≤ 8 ^ split * 8 ^ (depth - split) = mul-le-mul_right (8 ^ (depth - split)) (omega (arith, below)) in
     omega (arith, less, power, ap (λ n. 8 ^ n) same)
 
-pub eights_few : (depth : ℕ) → depth ≤ 12 → 8 ^ depth ≤ 2 ^ 60
+pub eights_few : (depth : ℕ) → depth ≤ MAX_DEPTH → 8 ^ depth ≤ 2 ^ 60
 eights_few depth shallow =
-    let less : 8 ^ depth ≤ 8 ^ 12 = pow-le-pow_right {n = 8} (lit< tt) {i = depth} {j = 12} shallow in
+    let less : 8 ^ depth ≤ 8 ^ MAX_DEPTH = pow-le-pow_right {n = 8} (lit< tt) {i = depth} {j = MAX_DEPTH} shallow in
     omega (arith, less)

@@ -5,9 +5,9 @@ use Rattle.std.proofs.lemmas.List.{length-replicate}
 use Rattle.std.proofs.lemmas.List.Elements.{All-weaker, All-head, All-tail, All-map}
 use Rattle.svo_base.specs.GridShape.{GridShape}
 use Rattle.svo_base.specs.declared.shapes.Point.{Point}
-use Rattle.svo_base.specs.declared.spans.Bounds.{Bounds}
-use Rattle.svo_base.specs.Spans.{IsPoint, IsNearPoint, IsNearSpan, IsSpanOf}
-use Rattle.svo_base.proofs.Widening.{near_point_fits, near_span}
+use Rattle.svo_base.specs.declared.boxes.Bounds.{Bounds}
+use Rattle.svo_base.specs.Boxes.{IsPoint, IsNearPoint, IsNearBox, IsBoxOf}
+use Rattle.svo_base.proofs.Widening.{near_point_fits, near_box}
 use Rattle.dev_traits.specs.Streams.{grown, grown_known, stream_of}
 use Rattle.dev_traits.proofs.Rooms.{length-grown}
 use Rattle.ply_reader.specs.Bounds.{IsNear}
@@ -38,8 +38,8 @@ use Rattle.build_core.specs.Meshes.{IsGridOf, IsGridFor, AreEmpty, IsOnScratch, 
 pub points_near : (points : List Point) → All IsNear points → All IsNearPoint points
 points_near points near = All-weaker IsNear IsNearPoint (λ p n. (n.x, n.y, n.z)) points near
 
-pub box_near : (points : List Point) (span : Option Bounds) → All IsNear points → IsSpanOf points span → IsNearSpan span
-box_near points span near is = near_span points span (points_near points near) is
+pub box_near : (points : List Point) (bounds : Option Bounds) → All IsNear points → IsBoxOf points bounds → IsNearBox bounds
+box_near points bounds near is = near_box points bounds (points_near points near) is
 
 vertex_fits : (points : List Point) (number : ℕ) → All IsNear points → IsPoint (vertex_at points number)
 vertex_fits [] number near = near_point_fits (record { x = pos 0; y = pos 0; z = pos 0 }) (omega arith, omega arith, omega arith)
@@ -133,9 +133,9 @@ first_told grid split points triangles (Some streams) both = both
 
 -- ---- the grid
 
-pub grid_is : (choice : GridChoice) (points : List Point) (span : Option Bounds) (grid : GridShape) → IsSpanOf points span → IsGridFor choice span grid → IsGridOf choice points grid
-grid_is (Given given) points span grid is chosen = chosen
-grid_is (Fit depth) points span grid is chosen = record { depth_is = chosen.0; span = span; is_span = is; fits = chosen.1 }
+pub grid_is : (choice : GridChoice) (points : List Point) (bounds : Option Bounds) (grid : GridShape) → IsBoxOf points bounds → IsGridFor choice bounds grid → IsGridOf choice points grid
+grid_is (Given given) points bounds grid is chosen = chosen
+grid_is (Fit depth) points bounds grid is chosen = record { depth_is = chosen.0; bounds = bounds; is_box = is; fits = chosen.1 }
 
 -- a partition that was made for this grid and split, with nothing waiting
 pub of_partition : (old new : MeshReading) (points : List Point) (before after : Option (List (List ℕ))) (partition : PartitionView) (grid : GridShape) (split : ℕ) (taken : Taken)

@@ -9,7 +9,7 @@ use Rattle.std.proofs.lemmas.Grind.{flat_map-append}
 use Rattle.svo_base.specs.GridShape.{GridShape}
 use Rattle.svo_base.specs.declared.shapes.Point.{Point}
 use Rattle.svo_base.specs.declared.shapes.Triangle.{Triangle}
-use Rattle.svo_base.specs.Spans.{IsPoint}
+use Rattle.svo_base.specs.Boxes.{IsPoint}
 use Rattle.svo_base.proofs.Widening.{near_point_fits}
 use Rattle.dev_traits.specs.Streams.{grown, stream_of}
 use Rattle.ply_reader.specs.declared.fault.PlyFault.{PlyFault}

@@ -1,6 +1,7 @@
 -- What a build answers, and what it leaves.
-use Rattle.std.specs.Prelude.{◌≡◌, ℕ, ◌+◌, ◌*◌, ◌^◌, ◌≤◌, Bool, ◌⊎◌, List, [], length, Option, Some, IfSome, Ok, Err}
+use Rattle.std.specs.Prelude.{◌≡◌, ℕ, ◌+◌, ◌*◌, ◌^◌, ◌≤◌, Bool, ◌⊎◌, List, [], length, Option, Some, IfSome, Result, Ok, Err, MatchResult}
 use Rattle.std.specs.Io.KnownBytes.{append_known}
+use Rattle.dev_traits.specs.Change.{Change, ScratchChange}
 use Rattle.svo_base.specs.GridShape.{GridShape, IsGrid}
 use Rattle.octree_specs.specs.Cells.{Cell, AreFacedCells}
 use Rattle.octree_specs.specs.FacedTriangles.{Faced}
@@ -47,6 +48,17 @@ pub record Devices : Type 0 where
   pub faults_before : ℕ
   pub faults_after : ℕ
   pub streams : Option (List (List ℕ))
+
+abbrev pub devices_of : Change → Change → ScratchChange → Devices
+devices_of input out scratch = record {
+  read_before = input.before;
+  read_after = input.after;
+  written_before = out.before;
+  written_after = out.after;
+  faults_before = out.faults_before;
+  faults_after = out.faults_after;
+  streams = scratch.streams.after;
+}
 
 -- a told text means this mesh
 abbrev pub MeansMesh : Job → Option (List ℕ) → PlyMesh → Type 0
@@ -95,3 +107,27 @@ StopsBuild job d (Input kind place) =
 StopsBuild job d ReadFault = IsUnwritten d
 StopsBuild job d ScratchFault = IsUnwritten d ⊎ HasBegun job d
 StopsBuild job d WriteFault = HasBegun job d
+
+-- the file, or why there is none
+abbrev pub Builds : Job → Devices → (moves moved tests tested : ℕ) → Result Built BuildFault → Type 0
+Builds job d moves moved tests tested result = MatchResult result (HasBuilt job d moves moved tests tested) (StopsBuild job d)
+
+-- ---- steps of a build that stops
+
+-- nothing was moved or tested
+abbrev pub IsUnstepped : (moves moved tests tested : ℕ) → Type 0
+IsUnstepped moves moved tests tested = (moved ≡ moves) × (tested ≡ tests)
+
+-- no more was moved and tested than for the whole file
+pub record StepsFew (job : Job) (d : Devices) (moves moved tests tested : ℕ) : Type 0 where
+  pub begun : HasBegun job d
+  pub few_moves : moved ≤ moves + begun.grid.depth * (length begun.cells + 1)
+  pub few_tests : IfSome d.streams (λ _. (test : Faced → ℕ → ℕ → Bool) → TestEachParcel begun.grid test
+      → tested ≤ tests + tests_of_parts begun.grid job.plan.split (8 ^ job.plan.split) test (faced_of begun.mesh))
+
+-- nothing, before the text was accepted
+abbrev pub StopsInTime : Job → Devices → (moves moved tests tested : ℕ) → BuildFault → Type 0
+StopsInTime job d moves moved tests tested (Input kind place) = IsUnstepped moves moved tests tested
+StopsInTime job d moves moved tests tested ReadFault = IsUnstepped moves moved tests tested
+StopsInTime job d moves moved tests tested ScratchFault = IsUnstepped moves moved tests tested ⊎ StepsFew job d moves moved tests tested
+StopsInTime job d moves moved tests tested WriteFault = StepsFew job d moves moved tests tested

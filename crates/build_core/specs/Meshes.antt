@@ -1,9 +1,9 @@
 -- A mesh that was read, on scratch.
 use Rattle.std.specs.Prelude.{◌≡◌, ℕ, ◌-◌, ◌^◌, ◌<◌, ◌≤◌, List, [], length, replicate, Option, Some, IfSome, Ok, Err, All}
 use Rattle.svo_base.specs.GridShape.{GridShape}
-use Rattle.svo_base.specs.Spans.{IsFitted, FitsSpan}
+use Rattle.svo_base.specs.Boxes.{IsFitted, FitsBox}
 use Rattle.svo_base.specs.declared.shapes.Point.{Point}
-use Rattle.svo_base.specs.declared.spans.Bounds.{Bounds}
+use Rattle.svo_base.specs.declared.boxes.Bounds.{Bounds}
 use Rattle.dev_traits.specs.Streams.{stream_of}
 use Rattle.mesh_laws.specs.Meshes.{faced_of}
 use Rattle.octree_specs.specs.Parcels.{vertex_bytes, HoldAlike, HoldsParcels}
@@ -47,8 +47,8 @@ IsGridOf (Fit depth) points chosen = IsFitted depth points chosen
 
 -- the same by the box around the points
 abbrev pub IsGridFor : GridChoice → Option Bounds → GridShape → Type 0
-IsGridFor (Given grid) span chosen = chosen ≡ grid
-IsGridFor (Fit depth) span chosen = (chosen.depth ≡ depth) × FitsSpan span chosen
+IsGridFor (Given grid) bounds chosen = chosen ≡ grid
+IsGridFor (Fit depth) bounds chosen = (chosen.depth ≡ depth) × FitsBox bounds chosen
 
 -- ---- the mesh on scratch
 

@@ -1,5 +1,5 @@
 -- Cells that are pushed into the queues in ascending order, and the file that grows by them.
-use Rattle.std.specs.Prelude.{◌≡◌, ℕ, ◌-◌, ◌+◌, ◌^◌, ◌<◌, ◌≤◌, List, [], ◌++◌, slice_index, Option, All}
+use Rattle.std.specs.Prelude.{◌≡◌, ℕ, ◌-◌, ◌+◌, ◌*◌, ◌^◌, ◌<◌, ◌≤◌, List, [], ◌++◌, length, slice_index, Option, All}
 use Rattle.std.specs.List.Sorted.{IsStrictlyIncreasing}
 use Rattle.std.specs.Io.KnownBytes.{append_known}
 use Rattle.dev_traits.specs.declared.device.ByteSink.{Ghosts}
@@ -42,16 +42,18 @@ module _ {O : Type 0} {g : Ghosts O} where
     pub depth : queues.depth ≡ grid.depth
     pub last : 0 < queues.cells → queues.last < bound
 
-  -- of the cells from one bound to the next, those were pushed behind the others that triangles of a kind fill
-  pub record PushesOn (grid : GridShape) (start : Option (List ℕ)) (from to : ℕ) (cells : List Cell) (Known : List Faced → Type 0) (queues : LevelQueues) (writer : NodeWriter O g) : Type 0 where
+  -- of the cells from one bound to the next, those were pushed behind the others that triangles of a kind fill, each with at most a move a level
+  pub record PushesOn (grid : GridShape) (start : Option (List ℕ)) (from to : ℕ) (cells : List Cell) (Known : List Faced → Type 0) (queues : LevelQueues) (writer : NodeWriter O g) (moves moved : ℕ) : Type 0 where
     pub more : List Cell
     pub pushed : HasPushed grid start to (cells ++ more) queues writer
+    pub few_moves : moved ≤ moves + grid.depth * length more
     pub filled : FillOn grid Known from to cells more
 
--- up to some bound of these the cells that triangles of a kind fill are such that the sink holds a front of the file of them and those before, whatever cells follow
-pub record LeavesFront (grid : GridShape) (start : Option (List ℕ)) (from to : ℕ) (cells : List Cell) (Known : List Faced → Type 0) (written : Option (List ℕ)) : Type 0 where
+-- up to some bound of these the cells that triangles of a kind fill are such that the sink holds a front of the file of them and those before, whatever cells follow, and each of them took at most a move a level
+pub record LeavesFront (grid : GridShape) (start : Option (List ℕ)) (from to : ℕ) (cells : List Cell) (Known : List Faced → Type 0) (written : Option (List ℕ)) (moves moved : ℕ) : Type 0 where
   pub more : List Cell
   pub bound : ℕ
   pub within : bound ≤ to
   pub holds : HoldsFrontBelow grid start bound (cells ++ more) written
+  pub few_moves : moved ≤ moves + grid.depth * length more
   pub filled : FillOn grid Known from bound cells more

@@ -20,13 +20,14 @@ pub record HasPutFile (grid : GridShape) (split : ℕ) (told : Option (List (Lis
   pub few_moves : moved ≤ moves + grid.depth * (length cells + 1)
   pub filled : (faced : List Faced) → HasPartsOf grid split told faced → AreFilledCells grid faced cells
 
--- the sink grew by a front of a file of the grid
-pub record GrewByFrontOf (grid : GridShape) (Cells : List Cell → Type 0) (before after : Option (List ℕ)) : Type 0 where
+-- the sink grew by a front of a file of the grid, with at most a move a level for each of its cells and for the end
+pub record GrewByFrontOf (grid : GridShape) (Cells : List Cell → Type 0) (before after : Option (List ℕ)) (moves moved : ℕ) : Type 0 where
   pub cells : List Cell
   pub are : Cells cells
   pub front : GrewByFront before after (image_of 2 grid cells)
+  pub few_moves : moved ≤ moves + grid.depth * (length cells + 1)
 
 -- of the file of some cells; and of that of all cells that those triangles fill whose parts lie on scratch
-pub record HasPutFront (grid : GridShape) (split : ℕ) (told : Option (List (List ℕ))) (before after : Option (List ℕ)) : Type 0 where
-  pub some : GrewByFrontOf grid (AreFacedCells grid.depth) before after
-  pub filled : (faced : List Faced) → HasPartsOf grid split told faced → GrewByFrontOf grid (AreFilledCells grid faced) before after
+pub record HasPutFront (grid : GridShape) (split : ℕ) (told : Option (List (List ℕ))) (before after : Option (List ℕ)) (moves moved : ℕ) : Type 0 where
+  pub some : GrewByFrontOf grid (AreFacedCells grid.depth) before after moves moved
+  pub filled : (faced : List Faced) → HasPartsOf grid split told faced → GrewByFrontOf grid (AreFilledCells grid faced) before after moves moved

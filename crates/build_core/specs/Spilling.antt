@@ -3,8 +3,8 @@ use Rattle.std.specs.Prelude.{◌≡◌, ℕ, ◌+◌, ◌-◌, ◌^◌, ◌<◌
 use Rattle.std.specs.List.{flat_map}
 use Rattle.svo_base.specs.GridShape.{GridShape}
 use Rattle.svo_base.specs.declared.shapes.Point.{Point}
-use Rattle.svo_base.specs.declared.spans.Bounds.{Bounds}
-use Rattle.svo_base.specs.Spans.{IsSpanOf}
+use Rattle.svo_base.specs.declared.boxes.Bounds.{Bounds}
+use Rattle.svo_base.specs.Boxes.{IsBoxOf}
 use Rattle.dev_traits.specs.Streams.{grown_known, stream_of}
 use Rattle.ply_text.specs.Reading.{Reading}
 use Rattle.ply_reader.specs.declared.scales.Scale.{Scale}
@@ -35,13 +35,13 @@ abbrev pub TakesPoints : MeshReading → MeshReading → List Point → Type 0
 TakesPoints old new points = (scale : Scale) (start : Reading) → Gave scale start [] [] old → Gave scale start points [] new
 
 -- all points of a mesh were taken, put into stream 0, and a box stands around them
-pub record SpoolsPoints (old new : MeshReading) (before after : Option (List (List ℕ))) (spool : SpoolView) (span : Option Bounds) : Type 0 where
+pub record SpoolsPoints (old new : MeshReading) (before after : Option (List (List ℕ))) (spool : SpoolView) (bounds : Option Bounds) : Type 0 where
   pub points : List Point
   pub takes : TakesPoints old new points
   pub near : All IsNear points
   pub count : spool.count ≡ length points
   pub put : after ≡ grown_known before 0 (vertex_bytes points)
-  pub is_span : IsSpanOf points span
+  pub is_box : IsBoxOf points bounds
 
 -- ---- triangles
 

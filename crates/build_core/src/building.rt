@@ -1,11 +1,12 @@
 //! The whole build.
 
-ghost use Rattle.std.specs.Prelude.{◌≡◌, ◌+◌, ◌-◌, ◌*◌, ◌^◌, ◌≤◌, ◌<◌, None, Some, Err, length, IfErr, MatchResult};
+ghost use Rattle.std.specs.Prelude.{◌≡◌, ◌+◌, ◌-◌, ◌*◌, ◌^◌, ◌≤◌, ◌<◌, None, Some, Err, length, IfErr};
+ghost use Rattle.dev_traits.specs.Change.{change_of, scratch_change_of};
 ghost use Rattle.dev_traits.specs.Faults.{Rose};
 ghost use Rattle.dev_traits.specs.Streams.{asked_of};
 ghost use Rattle.room_plan.specs.Rooms.{HasRoomOf};
 ghost use Rattle.build_core.specs.Meshes.{AreEmpty, IsJob};
-ghost use Rattle.build_core.specs.Building.{HasBuilt, StopsBuild};
+ghost use Rattle.build_core.specs.Building.{Builds, StopsInTime, devices_of};
 ghost use Rattle.build_core.specs.declared.faults.BuildFault.{BuildFault};
 
 use crate::faults::BuildFault;
@@ -26,6 +27,10 @@ use svo_base::Steps;
 /// parts are filled and put out one after another, in Morton order (Baert, Lagae, Dutré 2013). The
 /// scratch is started at `place`.
 ///
+/// At every answer each cell of the file, and its end, took at most a move a level, and each triangle of
+/// a part at most one test and eight for each node of the part whose cube it meets; before the text is
+/// accepted whole nothing is moved or tested.
+///
 /// # Errors
 ///
 /// - `Input`: the text is refused, at a place; all bytes before it were read, and nothing was put out.
@@ -45,25 +50,10 @@ pub fn build_core<I: ByteSource, S: Scratch, O: ByteSink, L: Ledger, T: Ledger>(
     requires job { IsJob job.now }
     requires room { HasRoomOf job.now.plan room.old }
     requires unasked { S.asked scratch.old ≡ None }
-    ensures builds { MatchResult result
-        (HasBuilt job.now (record {
-          read_before = I.rest input.old;
-          read_after = I.rest input.new;
-          written_before = O.written out.old;
-          written_after = O.written out.new;
-          faults_before = O.faults out.old;
-          faults_after = O.faults out.new;
-          streams = S.told scratch.new;
-        }) moves.old moves.new tests.old tests.new)
-        (StopsBuild job.now (record {
-          read_before = I.rest input.old;
-          read_after = I.rest input.new;
-          written_before = O.written out.old;
-          written_after = O.written out.new;
-          faults_before = O.faults out.old;
-          faults_after = O.faults out.new;
-          streams = S.told scratch.new;
-        })) }
+    ensures builds { Builds job.now (devices_of (change_of I.rest I.faults input.old input.new) (change_of O.written O.faults out.old out.new) (scratch_change_of S.told S.asked S.faults scratch.old scratch.new))
+        moves.old moves.new tests.old tests.new result }
+    ensures in_time { IfErr result (StopsInTime job.now (devices_of (change_of I.rest I.faults input.old input.new) (change_of O.written O.faults out.old out.new) (scratch_change_of S.told S.asked S.faults scratch.old scratch.new))
+        moves.old moves.new tests.old tests.new) }
     ensures asked { S.asked scratch.new ≡ Some (asked_of place.now (1 + 8 ^ job.now.plan.split)) }
     ensures read_later { I.faults input.old ≤ I.faults input.new }
     ensures spill_later { S.faults scratch.old ≤ S.faults scratch.new }
@@ -119,25 +109,10 @@ fn build_parts<I: ByteSource, S: Scratch, O: ByteSink, L: Ledger, T: Ledger>(
     requires slots { length slots.old ≡ job.now.plan.slots }
     requires started { S.started scratch.old ≡ 1 + 8 ^ job.now.plan.split }
     requires empty { AreEmpty (1 + 8 ^ job.now.plan.split) (S.told scratch.old) }
-    ensures builds { MatchResult result
-        (HasBuilt job.now (record {
-          read_before = I.rest input.old;
-          read_after = I.rest input.new;
-          written_before = O.written out.old;
-          written_after = O.written out.new;
-          faults_before = O.faults out.old;
-          faults_after = O.faults out.new;
-          streams = S.told scratch.new;
-        }) moves.old moves.new tests.old tests.new)
-        (StopsBuild job.now (record {
-          read_before = I.rest input.old;
-          read_after = I.rest input.new;
-          written_before = O.written out.old;
-          written_after = O.written out.new;
-          faults_before = O.faults out.old;
-          faults_after = O.faults out.new;
-          streams = S.told scratch.new;
-        })) }
+    ensures builds { Builds job.now (devices_of (change_of I.rest I.faults input.old input.new) (change_of O.written O.faults out.old out.new) (scratch_change_of S.told S.asked S.faults scratch.old scratch.new))
+        moves.old moves.new tests.old tests.new result }
+    ensures in_time { IfErr result (StopsInTime job.now (devices_of (change_of I.rest I.faults input.old input.new) (change_of O.written O.faults out.old out.new) (scratch_change_of S.told S.asked S.faults scratch.old scratch.new))
+        moves.old moves.new tests.old tests.new) }
     ensures asked { S.asked scratch.new ≡ S.asked scratch.old }
     ensures read_later { I.faults input.old ≤ I.faults input.new }
     ensures spill_later { S.faults scratch.old ≤ S.faults scratch.new }

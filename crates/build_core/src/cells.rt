@@ -15,7 +15,8 @@ use svo_base::Steps;
 
 /// Pushes the filled cells of a part, of which there are `codes` in all, in ascending order. It is
 /// refused only where the writer's sink counted a fault. At every answer the sink holds a front of the
-/// file of the cells pushed and of one more, whatever cells follow.
+/// file of the cells pushed and of one more, whatever cells follow, and each of these took at most a move
+/// a level.
 ///
 /// The cells of all parts before were pushed into the queues, and nothing failed.
 pub fn push_cells<O: ByteSink, L: Ledger>(
@@ -32,10 +33,9 @@ pub fn push_cells<O: ByteSink, L: Ledger>(
     requires inside { (part + 1) * codes ≤ 8 ^ queues.old.depth }
     requires pushed { (grid : GridShape) × (start : Option (List ℕ)) × (cells : List Cell) × HasPushed grid start (part * codes) cells queues.old writer.old }
     ensures pushed { OnOk result ((grid : GridShape) → (start : Option (List ℕ)) → (cells : List Cell) → HasPushed grid start (part * codes) cells queues.old writer.old
-        → PushesOn grid start (part * codes) ((part + 1) * codes) cells (AreSlotsOf slots.now (part * codes) codes grid) queues.new writer.new) }
+        → PushesOn grid start (part * codes) ((part + 1) * codes) cells (AreSlotsOf slots.now (part * codes) codes grid) queues.new writer.new moves.old moves.new) }
     ensures front { (grid : GridShape) → (start : Option (List ℕ)) → (cells : List Cell) → HasPushed grid start (part * codes) cells queues.old writer.old
-        → LeavesFront grid start (part * codes) ((part + 1) * codes) cells (AreSlotsOf slots.now (part * codes) codes grid) (O.written writer.new.sink.now) }
-    ensures moves { OnOk result (moves.new + queues.old.depth * queues.old.cells ≤ moves.old + queues.old.depth * queues.new.cells) }
+        → LeavesFront grid start (part * codes) ((part + 1) * codes) cells (AreSlotsOf slots.now (part * codes) codes grid) (O.written writer.new.sink.now) moves.old moves.new }
     ensures sink { writer.new.sink.ghost_name ≡ writer.old.sink.ghost_name }
     ensures depth { queues.new.depth ≡ queues.old.depth }
     ensures cause { HasCause (O.faults writer.old.sink.now) (O.faults writer.new.sink.now) result }

@@ -49,9 +49,9 @@ pub fn write_nodes<S: Scratch, O: ByteSink, L: Ledger, T: Ledger>(
     requires entries { length entries.old ≡ 8 * grid.now.depth }
     requires streams { 8 ^ split < S.started scratch.old }
     ensures file { IfOk result (λ totals. HasPutFile grid.now split (S.told scratch.old) (O.written out.old) (O.written out.new) totals moves.old moves.new) }
-    ensures front { HasPutFront grid.now split (S.told scratch.old) (O.written out.old) (O.written out.new) }
-    ensures tests { OnOk result ((test : Faced → ℕ → ℕ → Bool) → TestEachParcel grid.now test → (faced : List Faced) → HasPartsOf grid.now split (S.told scratch.old) faced
-        → tests.new ≤ tests.old + tests_of_parts grid.now split (8 ^ split) test faced) }
+    ensures front { HasPutFront grid.now split (S.told scratch.old) (O.written out.old) (O.written out.new) moves.old moves.new }
+    ensures tests { (test : Faced → ℕ → ℕ → Bool) → TestEachParcel grid.now test → (faced : List Faced) → HasPartsOf grid.now split (S.told scratch.old) faced
+        → tests.new ≤ tests.old + tests_of_parts grid.now split (8 ^ split) test faced }
     ensures limits { IsGrid grid.now }
     ensures told { S.told scratch.new ≡ S.told scratch.old }
     ensures started { S.started scratch.new ≡ S.started scratch.old }

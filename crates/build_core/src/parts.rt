@@ -1,6 +1,7 @@
 //! The parts of a grid, filled and pushed one after another.
 
 ghost use Rattle.std.specs.Prelude.{◌≡◌, ℕ, Bool, ◌+◌, ◌-◌, ◌*◌, ◌^◌, ◌<◌, ◌≤◌, [], List, Option, Err, length, slice_index, OnOk};
+ghost use Rattle.svo_base.specs.declared.grids.TheConstants.{MAX_DEPTH};
 ghost use Rattle.dev_traits.specs.Faults.{Rose};
 ghost use Rattle.octree_specs.specs.Cells.{Cell};
 ghost use Rattle.octree_specs.specs.FacedTriangles.{Faced};
@@ -23,7 +24,7 @@ use svo_base::{Grid, Steps};
 
 /// How many nodes there are so many levels below a node, up to the deepest.
 fn nodes_below(levels: u32) -> u64
-    requires { levels ≤ 12 }
+    requires { levels ≤ MAX_DEPTH }
     ensures { result ≡ 8 ^ levels }
 {
     1 << (3 * levels)
@@ -58,12 +59,11 @@ fn write_part<S: Scratch, O: ByteSink, L: Ledger, T: Ledger>(
     requires stream { HasStream (S.started scratch.old) part }
     requires pushed { (start : Option (List ℕ)) × (cells : List Cell) × HasPushed grid.now start (first_of_part grid.now split part) cells queues.old writer.old }
     ensures pushed { OnOk result ((start : Option (List ℕ)) → (cells : List Cell) → HasPushed grid.now start (first_of_part grid.now split part) cells queues.old writer.old
-        → PushesOn grid.now start (first_of_part grid.now split part) (first_of_part grid.now split (part + 1)) cells (HasPartOf grid.now split part (S.told scratch.old)) queues.new writer.new) }
+        → PushesOn grid.now start (first_of_part grid.now split part) (first_of_part grid.now split (part + 1)) cells (HasPartOf grid.now split part (S.told scratch.old)) queues.new writer.new moves.old moves.new) }
     ensures front { (start : Option (List ℕ)) → (cells : List Cell) → HasPushed grid.now start (first_of_part grid.now split part) cells queues.old writer.old
-        → LeavesFront grid.now start (first_of_part grid.now split part) (first_of_part grid.now split (part + 1)) cells (HasPartOf grid.now split part (S.told scratch.old)) (O.written writer.new.sink.now) }
-    ensures moves { OnOk result (moves.new + grid.now.depth * queues.old.cells ≤ moves.old + grid.now.depth * queues.new.cells) }
-    ensures tests { OnOk result ((test : Faced → ℕ → ℕ → Bool) → TestEachParcel grid.now test → (faced : List Faced) → HasPartOf grid.now split part (S.told scratch.old) faced
-        → tests.new ≤ tests.old + tests_of grid.now split part test (part_of grid.now split part faced)) }
+        → LeavesFront grid.now start (first_of_part grid.now split part) (first_of_part grid.now split (part + 1)) cells (HasPartOf grid.now split part (S.told scratch.old)) (O.written writer.new.sink.now) moves.old moves.new }
+    ensures tests { (test : Faced → ℕ → ℕ → Bool) → TestEachParcel grid.now test → (faced : List Faced) → HasPartOf grid.now split part (S.told scratch.old) faced
+        → tests.new ≤ tests.old + tests_of grid.now split part test (part_of grid.now split part faced) }
     ensures empty { OnOk result ((place : ℕ) → slice_index slots.new place ≡ 0) }
     ensures length { length slots.new ≡ length slots.old }
     ensures sink { writer.new.sink.ghost_name ≡ writer.old.sink.ghost_name }
@@ -117,12 +117,11 @@ pub fn write_parts<S: Scratch, O: ByteSink, L: Ledger, T: Ledger>(
     requires streams { 8 ^ split < S.started scratch.old }
     requires pushed { (start : Option (List ℕ)) × HasPushed grid.now start 0 [] queues.old writer.old }
     ensures pushed { OnOk result ((start : Option (List ℕ)) → HasPushed grid.now start 0 [] queues.old writer.old
-        → PushesOn grid.now start 0 (8 ^ grid.now.depth) [] (HasPartsOf grid.now split (S.told scratch.old)) queues.new writer.new) }
+        → PushesOn grid.now start 0 (8 ^ grid.now.depth) [] (HasPartsOf grid.now split (S.told scratch.old)) queues.new writer.new moves.old moves.new) }
     ensures front { (start : Option (List ℕ)) → HasPushed grid.now start 0 [] queues.old writer.old
-        → LeavesFront grid.now start 0 (8 ^ grid.now.depth) [] (HasPartsOf grid.now split (S.told scratch.old)) (O.written writer.new.sink.now) }
-    ensures moves { OnOk result (moves.new + grid.now.depth * queues.old.cells ≤ moves.old + grid.now.depth * queues.new.cells) }
-    ensures tests { OnOk result ((test : Faced → ℕ → ℕ → Bool) → TestEachParcel grid.now test → (faced : List Faced) → HasPartsOf grid.now split (S.told scratch.old) faced
-        → tests.new ≤ tests.old + tests_of_parts grid.now split (8 ^ split) test faced) }
+        → LeavesFront grid.now start 0 (8 ^ grid.now.depth) [] (HasPartsOf grid.now split (S.told scratch.old)) (O.written writer.new.sink.now) moves.old moves.new }
+    ensures tests { (test : Faced → ℕ → ℕ → Bool) → TestEachParcel grid.now test → (faced : List Faced) → HasPartsOf grid.now split (S.told scratch.old) faced
+        → tests.new ≤ tests.old + tests_of_parts grid.now split (8 ^ split) test faced }
     ensures sink { writer.new.sink.ghost_name ≡ writer.old.sink.ghost_name }
     ensures told { S.told scratch.new ≡ S.told scratch.old }
     ensures started { S.started scratch.new ≡ S.started scratch.old }

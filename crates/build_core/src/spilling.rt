@@ -1,12 +1,13 @@
 //! A mesh text, read once from front to end and put on scratch.
 
 ghost use Rattle.std.specs.Prelude.{◌≡◌, ◌+◌, ◌≤◌, ◌<◌, ◌^◌, ℕ, [], false, List, Err, length, MatchResult};
+ghost use Rattle.svo_base.specs.declared.grids.TheConstants.{MAX_DEPTH};
 ghost use Rattle.dev_traits.specs.Faults.{Rose};
 ghost use Rattle.ply_text.specs.Calls.{SameLent};
 ghost use Rattle.ply_reader.specs.Declarations.{declared};
 ghost use Rattle.ply_reader.specs.Layout.{vertex_count, face_count};
 ghost use Rattle.ply_reader.specs.MeshCalls.{mesh_reading, most_corners, IsReady};
-ghost use Rattle.svo_base.specs.Spans.{IsNearSpan};
+ghost use Rattle.svo_base.specs.Boxes.{IsNearBox};
 ghost use Rattle.vertex_spool.specs.Window.{AreBlocksOf};
 ghost use Rattle.build_core.specs.Spilling.{StopsSpilling};
 ghost use Rattle.build_core.specs.Meshes.{IsJob, IsGridFor, AreEmpty, SpillsMesh, SpillsText, TellsStop, depth_of};
@@ -21,7 +22,7 @@ use dev_traits::{ByteSource, Scratch};
 use ply_reader::MeshReader;
 use ply_text::Tokens;
 use room_plan::{Parcel, VertexBlock};
-use svo_base::{Grid, Span};
+use svo_base::{BoundingBox, Grid};
 use tri_partition::Partition;
 use vertex_spool::Spool;
 
@@ -93,8 +94,8 @@ fn spill_mesh<I: ByteSource, S: Scratch>(
     ensures later { S.faults scratch.old ≤ S.faults scratch.new }
     ensures cause { result ≡ Err SpillFault.Scratch → Rose (S.faults scratch.old) (S.faults scratch.new) }
 {
-    let span = spool_points(tokens, reader, spool, scratch)?;
-    let grid = chosen(&job.grid, &span);
+    let bounds = spool_points(tokens, reader, spool, scratch)?;
+    let grid = chosen(&job.grid, &bounds);
     let mut partition = Partition::new(grid, job.plan.split, pool);
     let taken = spill_triangles(tokens, reader, spool, &mut partition, scratch)?;
     reader.finish(tokens)?;
@@ -102,15 +103,15 @@ fn spill_mesh<I: ByteSource, S: Scratch>(
 }
 
 /// The grid that is given, or the one that is fitted to a box.
-fn chosen(choice: &GridChoice, span: &Span) -> Grid
+fn chosen(choice: &GridChoice, bounds: &BoundingBox) -> Grid
     requires some { 1 ≤ depth_of choice.now }
-    requires deepest { depth_of choice.now ≤ 12 }
-    requires near { IsNearSpan span.now }
-    ensures grid { IsGridFor choice.now span.now result }
+    requires deepest { depth_of choice.now ≤ MAX_DEPTH }
+    requires near { IsNearBox bounds.now }
+    ensures grid { IsGridFor choice.now bounds.now result }
     ensures depth { result.depth ≡ depth_of choice.now }
 {
     match choice {
         GridChoice::Given(grid) => *grid,
-        GridChoice::Fit(depth) => span.grid(*depth),
+        GridChoice::Fit(depth) => bounds.grid(*depth),
     }
 }

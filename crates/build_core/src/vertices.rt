@@ -11,7 +11,7 @@ use crate::faults::SpillFault;
 use dev_traits::{ByteSource, Scratch};
 use ply_reader::MeshReader;
 use ply_text::Tokens;
-use svo_base::Span;
+use svo_base::BoundingBox;
 use vertex_spool::Spool;
 
 /// Puts all vertices on scratch, and answers the box around them.
@@ -20,7 +20,7 @@ pub fn spool_points<I: ByteSource, S: Scratch>(
     reader: &mut MeshReader,
     spool: &mut Spool<'_>,
     scratch: &mut S,
-) -> Result<Span, SpillFault>
+) -> Result<BoundingBox, SpillFault>
     requires ready { IsReady (mesh_reading tokens.old reader.old) }
     requires few { reader.old.body.vertices < 2 ^ 32 }
     requires none { spool.old.count ≡ 0 }
@@ -44,11 +44,11 @@ pub fn spool_points<I: ByteSource, S: Scratch>(
     ensures later { S.faults scratch.old ≤ S.faults scratch.new }
     ensures cause { result ≡ Err SpillFault.Scratch → Rose (S.faults scratch.old) (S.faults scratch.new) }
 {
-    let mut span = Span::new();
+    let mut bounds = BoundingBox::new();
     while let Some(point) = reader.next_vertex(tokens)? {
         spool.put(point, scratch)?;
-        span.add(&point);
+        bounds.add(&point);
     }
     spool.close(scratch)?;
-    Ok(span)
+    Ok(bounds)
 }

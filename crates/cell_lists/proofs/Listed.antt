@@ -4,6 +4,7 @@ use Rattle.std.proofs.Math.Nat.{pow-le-pow_right}
 use Rattle.std.specs.Prelude.{IfSome}
 use Rattle.std.specs.Io.KnownBytes.{append_known}
 use Rattle.std.proofs.lemmas.List.Concat.{flat_map-append}
+use Rattle.svo_base.specs.declared.grids.TheConstants.{MAX_DEPTH}
 use Rattle.octree_specs.specs.Cells.{Cell, codes_of}
 use Rattle.octree_specs.specs.Formats.{StandFor}
 use Rattle.octree_laws.proofs.Rising.{Ascends, ascends}
@@ -106,7 +107,7 @@ put_cut (Some words) format depth before now after block used waits grew = λ ce
 -- codes of a grid are small
 pub code_few : (file : FileView) → IsFileView file → (code : ℕ) → code < 8 ^ file.grid.depth → code < 2 ^ 60
 code_few file framed code inside =
-    let shallow : file.grid.depth ≤ 12 = omega (arith, framed.limits.shallow) in
-    let bound : 8 ^ file.grid.depth ≤ 8 ^ 12 = pow-le-pow_right {n = 8} (lit< tt) {i = file.grid.depth} {j = 12} shallow in
-    let whole : 8 ^ 12 ≤ 2 ^ 40 = lit≤ tt in
+    let shallow : file.grid.depth ≤ MAX_DEPTH = omega (arith, framed.limits.shallow) in
+    let bound : 8 ^ file.grid.depth ≤ 8 ^ MAX_DEPTH = pow-le-pow_right {n = 8} (lit< tt) {i = file.grid.depth} {j = MAX_DEPTH} shallow in
+    let whole : 8 ^ MAX_DEPTH ≤ 2 ^ 40 = lit≤ tt in
     omega (arith, inside, bound, whole)

@@ -4,6 +4,7 @@ use Rattle.std.specs.List.{sum_by}
 use Rattle.std.proofs.Math.Nat.{pow-suc}
 use Rattle.std.proofs.lemmas.List.{length-append}
 use Rattle.std.proofs.lemmas.List.Sums.{sum_by-cons}
+use Rattle.svo_base.specs.declared.grids.TheConstants.{MAX_DEPTH}
 use Rattle.octree_specs.specs.Octree.{Leaf, children_of, size_of, in_turn, below_of}
 use Rattle.octree_laws.proofs.FirstChildren.{length-first_children}
 use Rattle.octree_laws.proofs.InTurn.{length-in_turn}
@@ -22,10 +23,10 @@ eights_rise n (suc more) =
     omega (arith, eights_rise n more, ap (λ k. 8 ^ k) e, pow-suc 8 (n + more))
 
 -- as many cells as numbers up to the last
-pub cells-few : (depth last cells : ℕ) → depth ≤ 12 → last < 8 ^ depth → cells ≤ last + 1 → cells ≤ 2 ^ 36
+pub cells-few : (depth last cells : ℕ) → depth ≤ MAX_DEPTH → last < 8 ^ depth → cells ≤ last + 1 → cells ≤ 2 ^ 36
 cells-few depth last cells shallow inside few =
-    let e : depth + (12 - depth) ≡ 12 = omega (arith, shallow) in
-    omega (arith, inside, few, eights_rise depth (12 - depth), ap (λ n. 8 ^ n) e)
+    let e : depth + (MAX_DEPTH - depth) ≡ MAX_DEPTH = omega (arith, shallow) in
+    omega (arith, inside, few, eights_rise depth (MAX_DEPTH - depth), ap (λ n. 8 ^ n) e)
 
 -- words below some nodes of a height
 few_below : (leaves : List Leaf) (height : ℕ) (nodes : List ℕ) → 7 * sum_by (size_of leaves height) nodes ≤ length nodes * 8 ^ suc height

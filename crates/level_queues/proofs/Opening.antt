@@ -2,6 +2,7 @@
 use Rattle.std.proofs.Common.{◌≡◌, ℕ, zero, suc, ◌^◌, ◌*◌, ◌<◌, List, [], ◌∷◌, take, drop, get_or, refl, ap, arith}
 use Rattle.std.specs.Prelude.{replicate}
 use Rattle.std.proofs.Math.Nat.{pow-suc}
+use Rattle.svo_base.specs.declared.grids.TheConstants.{MAX_DEPTH}
 use Rattle.octree_specs.specs.Octree.{first_children}
 use Rattle.room_plan.specs.declared.queues.QueueEntry.{QueueEntry}
 use Rattle.level_queues.specs.Queued.{before_of, entries_of, AreHeld, AreQueued, queue_of}
@@ -16,7 +17,7 @@ abbrev pub no_counts : List ℕ
 no_counts = 0 ∷ 0 ∷ 0 ∷ 0 ∷ 0 ∷ 0 ∷ 0 ∷ 0 ∷ 0 ∷ 0 ∷ 0 ∷ 0 ∷ []
 
 pub zero_row : (k : ℕ) → get_or no_counts k 0 ≡ 0
-zero_row k = none_row 12 k
+zero_row k = none_row MAX_DEPTH k
 
 pub zero_queue : (entries : List QueueEntry) (k : ℕ) → queue_of entries no_counts k ≡ []
 zero_queue entries k = ap (λ n. take n (drop (8 * k) entries)) (zero_row k)

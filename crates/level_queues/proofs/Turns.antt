@@ -2,6 +2,7 @@
 use Rattle.std.proofs.Common.{◌≡◌, ℕ, suc, ◌+◌, ◌-◌, ◌*◌, ◌/◌, ◌^◌, ◌<◌, ◌≤◌, false, List, [], ◌∷◌, ◌++◌, length, get_or, set, ap, ◌∙◌, subst, inl, inr, arith, add-one}
 use Rattle.std.proofs.lemmas.List.{length-append, length-map, length-set, get_or-set_same, get_or-set_other}
 use Rattle.std.proofs.lemmas.Bool.{cases_eq}
+use Rattle.svo_base.specs.declared.grids.TheConstants.{MAX_DEPTH}
 use Rattle.octree_specs.specs.Octree.{Leaf, is_nonempty}
 use Rattle.room_plan.specs.declared.queues.QueueEntry.{QueueEntry}
 use Rattle.level_queues.specs.GivenWords.{words_in}
@@ -14,9 +15,9 @@ use Rattle.level_queues.proofs.QueueRows.{row-length, row-put, row-kept, row-emp
 
 -- rows of queues over lent entries
 pub record AreRows (depth : ℕ) (entries : List QueueEntry) (counts : List ℕ) : Type 0 where
-  pub shallow : depth ≤ 12
+  pub shallow : depth ≤ MAX_DEPTH
   pub room : length entries ≡ 8 * depth
-  pub wide : length counts ≡ 12
+  pub wide : length counts ≡ MAX_DEPTH
   pub rows : (k : ℕ) → get_or counts k 0 ≤ 8
 
 pub are_rows : (queues : LevelQueues) → AreRows queues.depth queues.queues.entries queues.counts

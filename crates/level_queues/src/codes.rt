@@ -1,6 +1,7 @@
 //! The nodes over a cell.
 
 ghost use Rattle.std.specs.Prelude.{◌≡◌, ◌≢◌, ◌+◌, ◌*◌, ◌/◌, ◌^◌, ◌<◌, ◌≤◌};
+ghost use Rattle.svo_base.specs.declared.grids.TheConstants.{MAX_DEPTH};
 
 /// The code of the node that a cell lies under, so many levels higher.
 pub fn ancestor(code: u64, height: u32) -> u64
@@ -15,7 +16,7 @@ pub fn ancestor(code: u64, height: u32) -> u64
 /// when the second cell comes behind it.
 pub fn turning_height(last: u64, code: u64, depth: u32) -> u32
     requires depth { 0 < depth }
-    requires shallow { depth ≤ 12 }
+    requires shallow { depth ≤ MAX_DEPTH }
     requires last { last < 8 ^ depth }
     requires code { code < 8 ^ depth }
     ensures within { result < depth }

@@ -1,6 +1,7 @@
 //! The queues of the levels.
 
 ghost use Rattle.std.specs.Prelude.{◌≡◌, ◌+◌, ◌-◌, ◌*◌, ◌/◌, ◌%◌, ◌^◌, ◌<◌, ◌≤◌, ℕ, suc, length, slice_index_or};
+ghost use Rattle.svo_base.specs.declared.grids.TheConstants.{MAX_DEPTH};
 
 use crate::codes::{ancestor, turning_height};
 use crate::entries::write_entries;
@@ -8,7 +9,7 @@ use dev_traits::{ByteSink, Failed};
 use node_file::{NodeWriter, Totals};
 use room_plan::{QueueEntry, Queues};
 use std::sync::ledger::Ledger;
-use svo_base::Steps;
+use svo_base::{MAX_LEVELS, Steps};
 
 /// The nonempty nodes of an octree whose parents are not complete yet, in a queue of up to eight for
 /// each level below the root.
@@ -23,14 +24,14 @@ pub struct LevelQueues<'a> {
     // The queue of height h, which is the number of levels from its nodes down to the cells, has eight
     // entries from place 8 * h on, of which the first `counts[h]` wait.
     queues: Queues<'a>,
-    counts: [usize; 12],
+    counts: [usize; MAX_LEVELS],
     last: u64,
     cells: u64,
     words: u64,
     ghost least: { 0 < depth },
-    ghost most: { depth ≤ 12 },
+    ghost most: { depth ≤ MAX_DEPTH },
     ghost room: { length queues.entries ≡ 8 * depth },
-    ghost wide: { length counts ≡ 12 },
+    ghost wide: { length counts ≡ MAX_DEPTH },
     ghost rows: { (k : ℕ) → slice_index_or counts k 0 ≤ 8 },
     ghost inside: { last < 8 ^ depth },
     ghost few: { cells ≤ last + 1 },
@@ -51,7 +52,7 @@ impl<'a> LevelQueues<'a> {
     /// Empty queues for an octree of this depth, over entries whose contents do not matter.
     pub fn new(depth: u32, queues: Queues<'a>) -> LevelQueues<'a>
         requires least { 0 < depth }
-        requires most { depth ≤ 12 }
+        requires most { depth ≤ MAX_DEPTH }
         requires room { length queues.entries ≡ 8 * depth }
         ensures queued { IsQueued [] result [] }
         ensures depth { result.depth ≡ depth }
@@ -60,7 +61,7 @@ impl<'a> LevelQueues<'a> {
         LevelQueues {
             depth,
             queues,
-            counts: [0; 12],
+            counts: [0; MAX_LEVELS],
             last: 0,
             cells: 0,
             words: 0,

@@ -18,7 +18,8 @@ use Rattle.ply_reader.specs.Cursors.{Cursor, at}
 use Rattle.ply_reader.specs.Declarations.{Declared, nothing_declared}
 use Rattle.ply_reader.specs.HeaderRules.{count_of, element_of, property_of, is_misplaced, is_ascii_format, first_broken, first_rules, format_rules, element_rules, property_rules, end_rules, rules_of, is_end, after}
 use Rattle.ply_reader.specs.HeaderSteps.{header_of, whole_header}
-use Rattle.ply_reader.specs.LineWords.{line_words, words_of, is_blank, word_size}
+use Rattle.text_words.specs.LineWords.{words_of, is_blank, word_size}
+use Rattle.ply_reader.specs.LineWords.{line_words}
 use Rattle.ply_reader.specs.Names.{keyword_of, scalar_of, role_of, part_of}
 use Rattle.mesh_laws.proofs.NextTokens.{run_all}
 use Rattle.mesh_laws.proofs.NumberTokens.{digits_pass, digits_of, few_digits, whole_of_decimal}

@@ -2,6 +2,7 @@
 use Rattle.std.proofs.Common.{◌≡◌, ℕ, suc, ◌+◌, ◌-◌, ◌*◌, ◌%◌, ◌^◌, ◌<◌, ◌≤◌, arith, subst}
 use Rattle.std.proofs.Math.Nat.{pow-suc, mul-le-mul_right}
 use Rattle.std.proofs.lemmas.Nat.{pow-add}
+use Rattle.svo_base.specs.declared.grids.TheConstants.{MAX_DEPTH}
 use Rattle.svo_base.specs.GridShape.{GridShape, IsGrid}
 use Rattle.morton_code.proofs.Coordinates.{code_fits}
 use Rattle.morton_code.proofs.Heights.{eights, eight_pos}
@@ -54,7 +55,7 @@ part_slots grid split part count height first is_height is_first room = record {
 }
 
 -- a power of eight by a shift
-pub power_kept : (exponent : ℕ) → exponent ≤ 12 → 1 * 2 ^ (3 * exponent) % 2 ^ 64 ≡ 8 ^ exponent
+pub power_kept : (exponent : ℕ) → exponent ≤ MAX_DEPTH → 1 * 2 ^ (3 * exponent) % 2 ^ 64 ≡ 8 ^ exponent
 power_kept exponent within =
     let small : 8 ^ exponent - 1 < 2 ^ 60 = code_fits exponent (8 ^ exponent - 1) (omega arith) (omega (arith, eight_pos exponent)) in
     rw (← eights exponent) (omega (arith, small))

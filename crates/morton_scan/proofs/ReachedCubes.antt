@@ -10,13 +10,14 @@ use Rattle.svo_base.specs.declared.shapes.Triangle.{Triangle}
 use Rattle.octree_specs.specs.Meeting.{Meets, low_of, high_of}
 use Rattle.octree_specs.specs.Parts.{reaches, box_meets}
 use Rattle.grid_parts.proofs.Boxes.{box_meets_where_met}
-use Rattle.morton_scan.specs.declared.bounds.Bounds.{Bounds}
+use Rattle.svo_base.specs.declared.boxes.Bounds.{Bounds}
 use Rattle.svo_base.specs.GridShape.{GridShape}
 use Rattle.morton_scan.specs.declared.nodes.Node.{Node}
 use Rattle.morton_scan.specs.Nodes.{IsNode}
 use Rattle.morton_scan.specs.Putting.{ArePut, MetUnder}
 use Rattle.morton_scan.proofs.NodesBelow.{put_unmet}
-use Rattle.morton_scan.specs.Reaching.{bounds_of, bounds_reach, extent_of, extent_reaches}
+use Rattle.svo_base.specs.Boxes.{bounds_of, extent_of}
+use Rattle.morton_scan.specs.Reaching.{bounds_reach, extent_reaches}
 
 -- what one of three numbers does, their least does, and their greatest
 not_least : (a b c high : ℤ) → int_le (int_min (int_min a b) c) high ≡ false → (int_le a high || (int_le b high || int_le c high)) ≡ true → ⊥

@@ -8,14 +8,15 @@ use Rattle.svo_base.specs.declared.shapes.Cube.{Cube}
 use Rattle.svo_base.specs.declared.shapes.Triangle.{Triangle}
 use Rattle.octree_specs.specs.Meeting.{Meets, low_of, high_of}
 use Rattle.octree_specs.specs.NodeCube.{low_plane, node_cube}
-use Rattle.morton_scan.specs.declared.bounds.Bounds.{Bounds}
-use Rattle.morton_scan.specs.declared.bounds.Extent.{Extent}
+use Rattle.svo_base.specs.declared.boxes.Bounds.{Bounds}
+use Rattle.svo_base.specs.declared.boxes.Extent.{Extent}
 use Rattle.morton_scan.specs.declared.nodes.Node.{Node}
 use Rattle.morton_scan.specs.declared.octants.Halves.{Halves}
 use Rattle.morton_scan.specs.declared.octants.Octants.{Octants}
 use Rattle.morton_scan.specs.Narrowing.{IsChildUnmet}
 use Rattle.morton_scan.specs.Nodes.{IsNode}
-use Rattle.morton_scan.specs.Reaching.{bounds_of, bounds_reach, extent_reaches, halves_of, has_half, has_octant, octants_of}
+use Rattle.svo_base.specs.Boxes.{bounds_of}
+use Rattle.morton_scan.specs.Reaching.{bounds_reach, extent_reaches, halves_of, has_half, has_octant, octants_of}
 use Rattle.morton_scan.proofs.Planes.{child_plane}
 use Rattle.morton_scan.proofs.ReachedCubes.{reach_where_met}
 

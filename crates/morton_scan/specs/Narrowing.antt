@@ -8,7 +8,7 @@ use Rattle.octree_specs.specs.Parts.{passing}
 use Rattle.morton_scan.specs.Nodes.{HasSlots}
 use Rattle.morton_scan.specs.Putting.{MetUnder}
 use Rattle.morton_scan.specs.Reaching.{octants_of, has_octant, HasOther}
-use Rattle.morton_scan.specs.declared.bounds.Bounds.{Bounds}
+use Rattle.svo_base.specs.declared.boxes.Bounds.{Bounds}
 use Rattle.morton_scan.specs.declared.nodes.Node.{Node}
 use Rattle.morton_scan.specs.declared.octants.Octants.{Octants}
 

@@ -1,21 +1,11 @@
--- The box around a triangle, and which cubes it reaches.
+-- Which cubes and children of nodes a box reaches.
 use Rattle.std.specs.Prelude.{◌≡◌, ◌≢◌, ◌<◌, true, ℕ, zero, suc, ◌/◌, ◌%◌, Bool, ◌&&◌, ℤ, int_le}
-use Rattle.std.specs.Int.{int_min, int_max}
 use Rattle.svo_base.specs.declared.shapes.Cube.{Cube}
-use Rattle.svo_base.specs.declared.shapes.Triangle.{Triangle}
 use Rattle.octree_specs.specs.Meeting.{low_of, high_of}
-use Rattle.morton_scan.specs.declared.bounds.Bounds.{Bounds}
-use Rattle.morton_scan.specs.declared.bounds.Extent.{Extent}
+use Rattle.svo_base.specs.declared.boxes.Bounds.{Bounds}
+use Rattle.svo_base.specs.declared.boxes.Extent.{Extent}
 use Rattle.morton_scan.specs.declared.octants.Halves.{Halves}
 use Rattle.morton_scan.specs.declared.octants.Octants.{Octants}
-
--- from the least of three coordinates to the greatest
-abbrev pub extent_of : ℤ → ℤ → ℤ → Extent
-extent_of a b c = record { low = int_min (int_min a b) c; high = int_max (int_max a b) c }
-
--- the least box around a triangle
-unfoldable pub bounds_of : Triangle → Bounds
-bounds_of t = record { x = extent_of t.a.x t.b.x t.c.x; y = extent_of t.a.y t.b.y t.c.y; z = extent_of t.a.z t.b.z t.c.z }
 
 -- along an axis, neither of the extent and a cube ends before the other begins
 abbrev pub extent_reaches : Extent → Cube → ℕ → Bool

@@ -3,16 +3,16 @@
 ghost use Rattle.std.specs.Prelude.{◌≡◌, ℕ, Bool, ◌+◌, ◌-◌, ◌*◌, ◌^◌, ◌<◌, ◌≤◌, length};
 ghost use Rattle.bit_grid.specs.Touched.{AreTouched};
 ghost use Rattle.octree_specs.specs.Parts.{passing, PassWhereMet};
-ghost use Rattle.morton_scan.specs.Reaching.{bounds_of};
+ghost use Rattle.svo_base.specs.Boxes.{bounds_of};
 ghost use Rattle.morton_scan.specs.Nodes.{IsNode, HasSlots};
 ghost use Rattle.morton_scan.specs.Putting.{ArePut, MeetsInPart, MetUnder, first_of_part};
 
-use crate::bounds::Bounds;
 use crate::narrowing::{narrowed, reached_octants};
 use crate::nodes::Node;
+use crate::reaching::bounds_reach;
 use bit_grid::{TouchedBlocks, put_touched};
 use std::sync::ledger::Ledger;
-use svo_base::{Grid, Steps, Triangle};
+use svo_base::{Bounds, Grid, Steps, Triangle};
 use tri_cube::PreparedTriangle;
 
 /// Puts a face into the slots of all cells of a part that its triangle meets; all other slots stay.
@@ -61,8 +61,8 @@ pub fn fill_touched<L: Ledger>(
     ensures tests { (test : ℕ → ℕ → Bool) → PassWhereMet grid.now triangle.now test → tests.new ≤ tests.old + 1 + 8 * passing test (grid.now.depth - split) part }
 {
     let node = Node::new(grid, split, u64::from(part));
-    let bounds = Bounds::new(triangle);
-    if !bounds.reach(&node.cube) {
+    let bounds = Bounds::of_triangle(triangle);
+    if !bounds_reach(&bounds, &node.cube) {
         return;
     }
     let put = Put {

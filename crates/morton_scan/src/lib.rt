@@ -3,7 +3,6 @@
 //! Karras 2010; Schwarz, Seidel 2010).
 #![tactic(auto)]
 
-mod bounds;
 mod cells;
 mod filling;
 mod laws;
@@ -12,6 +11,7 @@ mod nodes;
 mod octants;
 mod part_slots;
 mod parts;
+mod reaching;
 
 pub use cells::{FilledCell, next_code};
 pub use filling::fill_triangle;

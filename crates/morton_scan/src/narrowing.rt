@@ -4,13 +4,13 @@ ghost use Rattle.std.specs.Prelude.{◌≡◌, ◌≢◌, ℕ, ◌<◌, false, I
 ghost use Rattle.svo_base.specs.declared.shapes.Triangle.{Triangle as TriangleShape};
 ghost use Rattle.morton_scan.specs.Narrowing.{IsChildUnmet, IsNarrowed, IsSmallest, reached_of};
 ghost use Rattle.morton_scan.specs.Nodes.{IsNode};
-ghost use Rattle.morton_scan.specs.Reaching.{bounds_of, has_octant};
+ghost use Rattle.morton_scan.specs.Reaching.{has_octant};
+ghost use Rattle.svo_base.specs.Boxes.{bounds_of};
 ghost use Rattle.std.specs.Option.{IfNone};
 
-use crate::bounds::Bounds;
 use crate::nodes::Node;
 use crate::octants::Octants;
-use svo_base::Grid;
+use svo_base::{Bounds, Grid};
 
 /// The smallest node under this one that holds all cells under it that the box reaches. On the way
 /// there the box reaches one child alone of each node, so that none of them needs a test.

@@ -4,8 +4,8 @@ ghost use Rattle.std.specs.Prelude.{◌≡◌, ◌≢◌, ℕ, ◌<◌, true, fa
 ghost use Rattle.std.specs.Option.{IfNone};
 ghost use Rattle.morton_scan.specs.Reaching.{has_half, has_octant, octants_of, HasOther};
 
-use crate::bounds::Bounds;
-use svo_base::Cube;
+use crate::reaching::halves_of;
+use svo_base::{Bounds, Cube};
 
 /// Which halves of a node along an axis a box reaches, of which the middle plane belongs to both.
 #[derive(Clone, Copy)]
@@ -53,9 +53,9 @@ impl Octants {
         ensures { result ≡ octants_of bounds.now last.now }
     {
         Octants {
-            x: bounds.x.halves(last, 0),
-            y: bounds.y.halves(last, 1),
-            z: bounds.z.halves(last, 2),
+            x: halves_of(&bounds.x, last, 0),
+            y: halves_of(&bounds.y, last, 1),
+            z: halves_of(&bounds.z, last, 2),
         }
     }
 

@@ -2,6 +2,7 @@
 use Rattle.std.proofs.Common.{◌≡◌, ℕ, ◌+◌, ◌-◌, ◌/◌, ◌^◌, ◌<◌, ◌≤◌, List, Option, None, Some, Result, refl, subst, arith, lit<, lit≤}
 use Rattle.std.specs.Prelude.{IfSome, IfOk}
 use Rattle.std.proofs.Math.Nat.{pow-le-pow_right, div-eq_of_lt}
+use Rattle.svo_base.specs.declared.grids.TheConstants.{MAX_DEPTH}
 use Rattle.octree_specs.specs.Cells.{Cell}
 use Rattle.octree_specs.specs.Formats.{StandFor}
 use Rattle.node_file.specs.FileView.{FileView, IsFileView}
@@ -29,9 +30,9 @@ module _ (file : FileView) (walk : CellWalk) (on : IsOn file walk) where
   pub walk_small : (code : ℕ) → code / 8 ^ walk.depth ≡ 0 → code + 1 < 2 ^ 60
   walk_small code top =
       let inside : code < 8 ^ walk.depth = within_top code walk.depth top in
-      let shallow : walk.depth ≤ 12 = omega (arith, on.deep, on.framed.limits.shallow) in
-      let bound : 8 ^ walk.depth ≤ 8 ^ 12 = pow-le-pow_right {n = 8} (lit< tt) {i = walk.depth} {j = 12} shallow in
-      let whole : 8 ^ 12 ≤ 2 ^ 40 = lit≤ tt in
+      let shallow : walk.depth ≤ MAX_DEPTH = omega (arith, on.deep, on.framed.limits.shallow) in
+      let bound : 8 ^ walk.depth ≤ 8 ^ MAX_DEPTH = pow-le-pow_right {n = 8} (lit< tt) {i = walk.depth} {j = MAX_DEPTH} shallow in
+      let whole : 8 ^ MAX_DEPTH ≤ 2 ^ 40 = lit≤ tt in
       omega (arith, inside, bound, whole)
 
 root_stands : (file : FileView) → IsFileView file

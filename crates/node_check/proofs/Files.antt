@@ -13,7 +13,7 @@ use Rattle.node_file.specs.declared.records.Totals.{Totals}
 use Rattle.node_check.specs.Verdicts.{Agrees, IsVerdict, HasOneMap, IsSettled}
 use Rattle.node_check.specs.declared.checking.CheckFault.{CheckFault}
 use Rattle.node_check.specs.declared.checking.CheckFault.TheVariants.{Failed, Refused}
-use Rattle.node_check.specs.declared.checking.Span.{Span}
+use Rattle.node_check.specs.declared.checking.Subtree.{Subtree}
 
 -- ---- the root
 
@@ -58,7 +58,7 @@ module _ (format depth cells records word : ℕ) (totals : Totals) (result : Res
       by_root words long own ∙ ap (λ b. cond b (cond (cells == 0) None (Some 1)) (refused_root words)) empty in
       subst (λ r. IsVerdict r totals result) (root ∙ (turned ∙ sym whole)) verdict
 
-  pub root_verdict : (told : Option (List ℕ)) (span : Span) → IfSome told (λ words. length words ≡ records) → IfSome told (λ words. word ≡ slice_index words (records - 1)) → ((records == 1) && (word == 0)) ≡ false
+  pub root_verdict : (told : Option (List ℕ)) (span : Subtree) → IfSome told (λ words. length words ≡ records) → IfSome told (λ words. word ≡ slice_index words (records - 1)) → ((records == 1) && (word == 0)) ≡ false
       → IfSome told (λ words. Agrees (fit (rule_of format) words (levels_of format depth) (records - 1) 0) (Ok span))
       → IsVerdict (refused_by records cells (Ok (record { next = span.next; cells = span.cells }))) totals result → IfSome told (λ words. IsVerdict (refused_in format depth words cells) totals result)
   root_verdict None span long own empty fits verdict = tt
@@ -122,7 +122,7 @@ module _ (file : FileView) (framed : IsFileView file) (totals : Totals) (word : 
 
   module _ (format depth height : ℕ) (format_is : format ≡ file.format) (depth_is : depth ≡ file.grid.depth) (height_is : height ≡ levels_of format depth)
       (some : ((totals.records == 1) && (word == 0)) ≡ false) where
-    pub root_answer : (result : Result Totals CheckFault) (span : Span) → IfSome file.words (λ words. Agrees (fit (rule_of format) words height (totals.records - 1) 0) (Ok span))
+    pub root_answer : (result : Result Totals CheckFault) (span : Subtree) → IfSome file.words (λ words. Agrees (fit (rule_of format) words height (totals.records - 1) 0) (Ok span))
         → IsVerdict (refused_by totals.records totals.cells (Ok (record { next = span.next; cells = span.cells }))) totals result
         → IfSome file.words (λ words. IsVerdict (refused_in file.format file.grid.depth words file.totals.cells) file.totals result)
     root_answer result span fits verdict =

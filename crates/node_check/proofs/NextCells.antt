@@ -5,6 +5,7 @@ use Rattle.std.proofs.Math.Nat.{pow-suc, one-le-pow, pow-le-pow_right, div-eq_of
 use Rattle.std.proofs.lemmas.Nat.{le-div}
 use Rattle.std.proofs.lemmas.Bool.{cases_Bool, ltb-false, ltb-true, or_parts, or_cases, ne_eqb}
 use Rattle.std.proofs.lemmas.List.Elements.{All-head, All-tail}
+use Rattle.svo_base.specs.declared.grids.TheConstants.{MAX_DEPTH}
 use Rattle.octree_specs.specs.Cells.{Cell}
 use Rattle.octree_specs.specs.Formats.{StandFor, face_leaves}
 use Rattle.octree_specs.specs.Octree.{is_nonempty}
@@ -178,17 +179,17 @@ not_passed word place child least is = not_false (has_child word place) (or_part
 
 -- ---- codes of nodes
 
-pub child_code : (code place height : ℕ) → 1 ≤ height → height ≤ 12 → place < 8 → code < 8 ^ (12 - height) → 8 * code + place < 8 ^ (12 - (height - 1))
+pub child_code : (code place height : ℕ) → 1 ≤ height → height ≤ MAX_DEPTH → place < 8 → code < 8 ^ (MAX_DEPTH - height) → 8 * code + place < 8 ^ (MAX_DEPTH - (height - 1))
 child_code code place height least most octant small =
-    let e : 12 - (height - 1) ≡ suc (12 - height) = omega (arith, least, most) in
-    let power : 8 ^ (12 - (height - 1)) ≡ 8 ^ (12 - height) * 8 = ap (λ n. 8 ^ n) e ∙ pow-suc 8 (12 - height) in
+    let e : MAX_DEPTH - (height - 1) ≡ suc (MAX_DEPTH - height) = omega (arith, least, most) in
+    let power : 8 ^ (MAX_DEPTH - (height - 1)) ≡ 8 ^ (MAX_DEPTH - height) * 8 = ap (λ n. 8 ^ n) e ∙ pow-suc 8 (MAX_DEPTH - height) in
     omega (arith, power, small, octant)
 
-pub code_small : (code place height : ℕ) → 1 ≤ height → height ≤ 12 → place < 8 → code < 8 ^ (12 - height) → 8 * code + place < 2 ^ 40
+pub code_small : (code place height : ℕ) → 1 ≤ height → height ≤ MAX_DEPTH → place < 8 → code < 8 ^ (MAX_DEPTH - height) → 8 * code + place < 2 ^ 40
 code_small code place height least most octant small =
-    let one : 8 * code + place < 8 ^ (12 - (height - 1)) = child_code code place height least most octant small in
-    let bound : 8 ^ (12 - (height - 1)) ≤ 8 ^ 12 = pow-le-pow_right {n = 8} (lit< tt) {i = 12 - (height - 1)} {j = 12} (omega arith) in
-    let whole : 8 ^ 12 ≤ 2 ^ 40 = lit≤ tt in
+    let one : 8 * code + place < 8 ^ (MAX_DEPTH - (height - 1)) = child_code code place height least most octant small in
+    let bound : 8 ^ (MAX_DEPTH - (height - 1)) ≤ 8 ^ MAX_DEPTH = pow-le-pow_right {n = 8} (lit< tt) {i = MAX_DEPTH - (height - 1)} {j = MAX_DEPTH} (omega arith) in
+    let whole : 8 ^ MAX_DEPTH ≤ 2 ^ 40 = lit≤ tt in
     omega (arith, one, bound, whole)
 
 pub up_from : (cell height child code place : ℕ) → 0 < height → cell / 8 ^ (height - 1) ≡ child → child ≡ 8 * code + place → place < 8 → cell / 8 ^ height ≡ code

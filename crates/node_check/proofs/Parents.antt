@@ -4,18 +4,19 @@ use Rattle.std.specs.Prelude.{◌==◌, ◌||◌, nat_lt, slice_index, count_one
 use Rattle.std.proofs.Math.Nat.{pow-suc, pow-le-pow_right, mul-le-mul_right}
 use Rattle.std.proofs.lemmas.Bool.{or_parts, ltb-false}
 use Rattle.std.specs.Result.{IsErr, IsErrAnd}
+use Rattle.svo_base.specs.declared.grids.TheConstants.{MAX_DEPTH}
 use Rattle.octree_specs.specs.Checking.{LeafRule, and_then, fit_each, fit_parent, fit}
 use Rattle.node_check.specs.Verdicts.{Agrees, leaf_fit, IsBounded}
 use Rattle.node_check.specs.declared.checking.CheckFault.{CheckFault}
 use Rattle.node_check.specs.declared.checking.CheckFault.TheVariants.{Failed, Refused}
-use Rattle.node_check.specs.declared.checking.Span.{Span}
+use Rattle.node_check.specs.declared.checking.Subtree.{Subtree}
 use Rattle.node_check.proofs.Recursion.{IsLeft, left_step, left_refused, left_none}
 
-leaf_of : (rule : LeafRule) (words : List ℕ) (number at : ℕ) (result : Result Span CheckFault) → Agrees (leaf_fit rule (slice_index words number) number at) result → Agrees (fit rule words 0 number at) result
+leaf_of : (rule : LeafRule) (words : List ℕ) (number at : ℕ) (result : Result Subtree CheckFault) → Agrees (leaf_fit rule (slice_index words number) number at) result → Agrees (fit rule words 0 number at) result
 unfolding fit
 leaf_of rule words number at result agrees = agrees
 
-pub leaf_agrees : (rule : LeafRule) (told : Option (List ℕ)) (word number at height : ℕ) (result : Result Span CheckFault) → height ≡ 0 → IfSome told (λ words. word ≡ slice_index words number)
+pub leaf_agrees : (rule : LeafRule) (told : Option (List ℕ)) (word number at height : ℕ) (result : Result Subtree CheckFault) → height ≡ 0 → IfSome told (λ words. word ≡ slice_index words number)
     → Agrees (leaf_fit rule word number at) result → IfSome told (λ words. Agrees (fit rule words height number at) result)
 leaf_agrees rule None word number at height result low own agrees = tt
 leaf_agrees rule (Some words) word number at height result low own agrees =
@@ -79,7 +80,7 @@ module _ (rule : LeafRule) (height word number at count : ℕ) (misplaced : Bool
       (left_refused (fit rule words (height - 1)) (word / 256) count at place next cells n left within (subst (λ c. fit rule words (height - 1) c next ≡ Err n) here agrees))
 
   -- all fit
-  pub parent_agrees : (told : Option (List ℕ)) (result : Result Span CheckFault) (next cells : ℕ) → IfSome told (λ words. word ≡ slice_index words number) → misplaced ≡ false
+  pub parent_agrees : (told : Option (List ℕ)) (result : Result Subtree CheckFault) (next cells : ℕ) → IfSome told (λ words. word ≡ slice_index words number) → misplaced ≡ false
       → IfSome told (λ words. IsLeft (fit rule words (height - 1)) (word / 256) count at count next cells)
       → Agrees (fit_parent number word (record { next = next; cells = cells })) result → IfSome told (λ words. Agrees (fit rule words height number at) result)
   parent_agrees None result next cells own placed left agrees = tt
@@ -93,7 +94,7 @@ module _ (rule : LeafRule) (height word number at count : ℕ) (misplaced : Bool
   children_before placed = ltb-false number (word / 256 + count) (or_parts (word % 256 == 0) (nat_lt number (word / 256 + count)) (sym test ∙ placed)).1
 
 -- one more child fits
-pub next_left : (rule : LeafRule) (told : Option (List ℕ)) (height base count at place next cells child : ℕ) (span : Span) → IfSome told (λ words. IsLeft (fit rule words height) base count at place next cells)
+pub next_left : (rule : LeafRule) (told : Option (List ℕ)) (height base count at place next cells child : ℕ) (span : Subtree) → IfSome told (λ words. IsLeft (fit rule words height) base count at place next cells)
     → place < count → child ≡ base + place → IfSome told (λ words. Agrees (fit rule words height child next) (Ok span))
     → IfSome told (λ words. IsLeft (fit rule words height) base count at (place + 1) span.next (cells + span.cells))
 next_left rule None height base count at place next cells child span left within here agrees = tt
@@ -108,10 +109,10 @@ more_cells height place cells more high few some =
     let one : more ≤ 8 ^ height = subst (λ h. more ≤ 8 ^ h) level some in
     omega (arith, few, one)
 
-power_small : (height : ℕ) → height ≤ 12 → 8 ^ height ≤ 68719476736
-power_small height shallow = pow-le-pow_right {n = 8} (lit< tt) {i = height} {j = 12} shallow
+power_small : (height : ℕ) → height ≤ MAX_DEPTH → 8 ^ height ≤ 68719476736
+power_small height shallow = pow-le-pow_right {n = 8} (lit< tt) {i = height} {j = MAX_DEPTH} shallow
 
-pub cells_small : (height place cells : ℕ) → height ≤ 12 → place ≤ 8 → cells ≤ place * 8 ^ height → cells < 2 ^ 64
+pub cells_small : (height place cells : ℕ) → height ≤ MAX_DEPTH → place ≤ 8 → cells ≤ place * 8 ^ height → cells < 2 ^ 64
 cells_small height place cells shallow octants few =
     let power : 8 ^ height ≤ 68719476736 = power_small height shallow in
     let times : place * 8 ^ height ≤ 8 * 8 ^ height = mul-le-mul_right (8 ^ height) octants in
@@ -124,7 +125,7 @@ all_cells height count cells octants few =
     let power : 8 ^ (height + 1) ≡ 8 ^ height * 8 = ap (λ n. 8 ^ n) e ∙ pow-suc 8 height in
     omega (arith, times, power, few)
 
-pub bounded : (records height at before after next cells base count number : ℕ) (result : Result Span CheckFault)
+pub bounded : (records height at before after next cells base count number : ℕ) (result : Result Subtree CheckFault)
     → IfOk result (λ span. (next ≡ base) × (span.next ≡ base + count)) → IfOk result (λ span. span.cells ≡ cells) → base + count ≤ number → number < records → count ≤ 8
     → cells ≤ count * 8 ^ height → after + at ≡ before + count + next → IfOk result (IsBounded records height at before after)
 bounded records height at before after next cells base count number (Ok span) ends count_is above within octants few once = record {

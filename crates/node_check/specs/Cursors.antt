@@ -1,5 +1,6 @@
 -- A walk over all cells of a file, one after another.
 use Rattle.std.specs.Prelude.{◌≡◌, ℕ, ◌-◌, ◌/◌, ◌%◌, ◌⊎◌, ⊤, true, List, length, Option, None, Some, Result, Ok, Err, IfSome, All}
+use Rattle.svo_base.specs.declared.grids.TheConstants.{MAX_DEPTH}
 use Rattle.octree_specs.specs.Cells.{Cell}
 use Rattle.node_file.specs.FileView.{FileView, IsFileView}
 use Rattle.node_check.specs.Stops.{IsNoCellAtAll}
@@ -14,7 +15,7 @@ use Rattle.node_check.specs.declared.walking.WalkFault.TheVariants.{Failed, Refu
 -- each node that is kept has its own word
 pub record IsKept (told : Option (List ℕ)) (records : ℕ) (path : Path) : Type 0 where
   pub nodes : All (λ (node : Node). IsWordOf told records node.number node.word) path.nodes
-  pub twelve : length path.nodes ≡ 12
+  pub twelve : length path.nodes ≡ MAX_DEPTH
   pub parent : IsWordOf told records path.parent.number path.parent.word
 
 -- a walk goes over this file

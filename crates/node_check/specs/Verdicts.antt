@@ -7,10 +7,10 @@ use Rattle.octree_laws.specs.Laws.{StandForMany}
 use Rattle.node_file.specs.declared.records.Totals.{Totals}
 use Rattle.node_check.specs.declared.checking.CheckFault.{CheckFault}
 use Rattle.node_check.specs.declared.checking.CheckFault.TheVariants.{Failed, Refused}
-use Rattle.node_check.specs.declared.checking.Span.{Span}
+use Rattle.node_check.specs.declared.checking.Subtree.{Subtree}
 
 -- an answer of one node is the wanted one, unless a read failed
-abbrev pub Agrees : Result Fitted ℕ → Result Span CheckFault → Type 0
+abbrev pub Agrees : Result Fitted ℕ → Result Subtree CheckFault → Type 0
 Agrees wanted (Ok span) = wanted ≡ Ok (record { next = span.next; cells = span.cells })
 Agrees wanted (Err (Refused number)) = wanted ≡ Err number
 Agrees wanted (Err Failed) = ⊤
@@ -39,7 +39,7 @@ IsSettled format depth count words (Err (Refused number)) = StandForMany format 
 IsSettled format depth count words (Err Failed) = ⊤
 
 -- of a node that fits: what lies below it was read once, word for word
-pub record IsBounded (records height at before after : ℕ) (span : Span) : Type 0 where
+pub record IsBounded (records height at before after : ℕ) (span : Subtree) : Type 0 where
   pub inside : span.next < records
   pub few : span.cells ≤ 8 ^ (height + 1)
   pub once : after + at ≡ before + span.next

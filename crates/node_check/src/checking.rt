@@ -1,6 +1,7 @@
 //! Whether a framed file is a node file.
 
 ghost use Rattle.std.specs.Prelude.{◌≡◌, ℕ, ◌+◌, ◌-◌, ◌*◌, ◌/◌, ◌%◌, ◌^◌, ◌==◌, ◌&&◌, ◌||◌, ◌<◌, ◌≤◌, nat_lt, nat_le, not, length, slice_index, IfSome, IfOk, OnOk, Ok, Err, count_ones};
+ghost use Rattle.svo_base.specs.declared.grids.TheConstants.{MAX_DEPTH};
 ghost use Rattle.octree_specs.specs.Checking.{rule_of, fit, fit_parent, refused_by, refused_in};
 ghost use Rattle.octree_specs.specs.Formats.{IsFormat, levels_of};
 ghost use Rattle.node_check.specs.Counts.{HasCauseOf, LooksAsReads};
@@ -39,7 +40,7 @@ const MAX_FACE: u64 = 4_294_967_294;
 
 /// Of a node that fits: the number of the first word behind those below it, and how many cells it has.
 #[derive(Clone, Copy, Debug)]
-pub struct Span {
+pub struct Subtree {
     pub next: u64,
     pub cells: u64,
 }
@@ -92,7 +93,7 @@ fn check_words<R: Records, L: Ledger>(
     let last = totals.records - 1;
     let word = nodes.word(last, reads)?;
     if is_empty(totals.records, word) {
-        return root_verdict(&totals, &Span { next: 0, cells: 0 });
+        return root_verdict(&totals, &Subtree { next: 0, cells: 0 });
     }
     let root = Node { number: last, word };
     let span = check_node(nodes, format, height, &root, 0, reads)?;
@@ -115,7 +116,7 @@ fn is_empty(records: u64, word: u64) -> bool
 }
 
 /// What the root says of the file: all other words are below it, and as many cells as the trailer says.
-fn root_verdict(totals: &Totals, root: &Span) -> Result<Totals, CheckFault>
+fn root_verdict(totals: &Totals, root: &Subtree) -> Result<Totals, CheckFault>
     requires { 1 ≤ totals.now.records }
     ensures verdict { IsVerdict (refused_by totals.now.records totals.now.cells (Ok (record { next = root.now.next; cells = root.now.cells }))) totals.now result }
     ensures totals { IfOk result (λ answer. answer ≡ totals.now) }
@@ -142,8 +143,8 @@ fn check_node<R: Records, L: Ledger>(
     node: &Node,
     at: u64,
     reads: &mut Steps<L>,
-) -> Result<Span, CheckFault>
-    requires shallow { height ≤ 12 }
+) -> Result<Subtree, CheckFault>
+    requires shallow { height ≤ MAX_DEPTH }
     requires known { IsFormat format }
     requires number { node.now.number < (R.file nodes.old).totals.records }
     requires word { IfSome (R.file nodes.old).words (λ words. node.now.word ≡ slice_index words node.now.number) }
@@ -157,7 +158,7 @@ fn check_node<R: Records, L: Ledger>(
     ensures cause { HasCauseOf (R.faults nodes.old) (R.faults nodes.new) result Failed }
 {
     if height == 0 {
-        return leaf_span(format, node, at);
+        return leaf_subtree(format, node, at);
     }
     let base = node.word / 256;
     let count = ones(node.word);
@@ -167,19 +168,19 @@ fn check_node<R: Records, L: Ledger>(
         });
     }
     let siblings = read_siblings(nodes, base, count, reads)?;
-    let mut below = Span { next: at, cells: 0 };
+    let mut below = Subtree { next: at, cells: 0 };
     for place in 0..count {
         let child = Node {
             number: base + u64::from(place),
             word: siblings[place as usize],
         };
         let span = check_node(nodes, format, height - 1, &child, below.next, reads)?;
-        below = Span {
+        below = Subtree {
             next: span.next,
             cells: below.cells + span.cells,
         };
     }
-    parent_span(node, &below)
+    parent_subtree(node, &below)
 }
 
 /// How many children a word has.
@@ -199,7 +200,7 @@ fn is_misplaced(node: &Node, base: u64, count: u32) -> bool
 }
 
 /// The span of a node above the leaves, of which this lies below.
-fn parent_span(node: &Node, below: &Span) -> Result<Span, CheckFault>
+fn parent_subtree(node: &Node, below: &Subtree) -> Result<Subtree, CheckFault>
     ensures fits { Agrees (fit_parent node.now.number node.now.word (record { next = below.now.next; cells = below.now.cells })) result }
     ensures next { IfOk result (λ span. (below.now.next ≡ node.now.word / 256) × (span.next ≡ node.now.word / 256 + count_ones (node.now.word % 256))) }
     ensures cells { IfOk result (λ span. span.cells ≡ below.now.cells) }
@@ -211,14 +212,14 @@ fn parent_span(node: &Node, below: &Span) -> Result<Span, CheckFault>
             number: node.number,
         });
     }
-    Ok(Span {
+    Ok(Subtree {
         next: base + u64::from(ones(node.word)),
         cells: below.cells,
     })
 }
 
 /// The span of a leaf.
-fn leaf_span(format: u32, node: &Node, at: u64) -> Result<Span, CheckFault>
+fn leaf_subtree(format: u32, node: &Node, at: u64) -> Result<Subtree, CheckFault>
     requires { IsFormat format }
     ensures fits { Agrees (leaf_fit (rule_of format) node.now.word node.now.number at) result }
     ensures next { IfOk result (λ span. span.next ≡ at) }
@@ -230,7 +231,7 @@ fn leaf_span(format: u32, node: &Node, at: u64) -> Result<Span, CheckFault>
             number: node.number,
         });
     }
-    Ok(Span {
+    Ok(Subtree {
         next: at,
         cells: cell_count(format, node.word),
     })

@@ -1,6 +1,7 @@
 //! The next filled cell.
 
 ghost use Rattle.std.specs.Prelude.{◌≡◌, ℕ, ◌+◌, ◌-◌, ◌*◌, ◌/◌, ◌%◌, ◌^◌, ◌<◌, ◌≤◌, List, IfSome, IfOk, OnOk};
+ghost use Rattle.svo_base.specs.declared.grids.TheConstants.{MAX_DEPTH};
 ghost use Rattle.octree_specs.specs.Cells.{Cell};
 ghost use Rattle.octree_specs.specs.Formats.{StandFor};
 ghost use Rattle.node_check.specs.Counts.{HasCauseOf, LooksAsReads};
@@ -52,8 +53,8 @@ pub fn next_under<R: Records, L: Ledger>(
     reads: &mut Steps<L>,
 ) -> Result<Option<u64>, WalkFault>
     requires least { 1 ≤ height }
-    requires most { height ≤ 12 }
-    requires code { code < 8 ^ (12 - height) }
+    requires most { height ≤ MAX_DEPTH }
+    requires code { code < 8 ^ (MAX_DEPTH - height) }
     requires own { IsWordOf (R.file nodes.old).words (R.file nodes.old).totals.records node.now.number node.now.word }
     requires kept { IsKept (R.file nodes.old).words (R.file nodes.old).totals.records path.old }
     ensures told { IfSome (R.file nodes.old).words (λ words. (cells : List Cell) → LeadsOn words (R.file nodes.old).format cells height code node.now.number → GivesNextUnder cells height code from result) }

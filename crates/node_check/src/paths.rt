@@ -1,6 +1,7 @@
 //! The nodes that a walk over cells is at, one of each height.
 
 ghost use Rattle.std.specs.Prelude.{Option, List, IsTrue, ◌≡◌, ℕ, ◌+◌, ◌*◌, ◌/◌, ◌%◌, ◌^◌, ◌==◌, ◌<◌, ◌≤◌, true, slice_index, IfSome, IfOk, IfErr, OnOk};
+ghost use Rattle.svo_base.specs.declared.grids.TheConstants.{MAX_DEPTH};
 ghost use Rattle.octree_specs.specs.Walking.{child_number};
 ghost use Rattle.node_check.specs.Counts.{HasCauseOf, LooksAsReads};
 ghost use Rattle.node_check.specs.Walks.{IsWordOf, RefusesAbove, has_child};
@@ -10,12 +11,12 @@ ghost use Rattle.node_check.specs.declared.walking.WalkFault.TheVariants.{Failed
 use crate::walking::{Node, WalkFault, child_at, number_of_child};
 use node_file::Records;
 use std::sync::ledger::Ledger;
-use svo_base::Steps;
+use svo_base::{MAX_LEVELS, Steps};
 
 /// The node of each height that was entered last, and the one just above the cell that was found last.
 #[derive(Clone, Copy, Debug)]
 pub struct Path {
-    pub nodes: [Node; 12],
+    pub nodes: [Node; MAX_LEVELS],
     pub parent: Node,
 }
 
@@ -25,7 +26,7 @@ impl Path {
         ensures { (told : Option (List ℕ)) → (records : ℕ) → IsWordOf told records root.number root.word → IsKept told records result }
     {
         Path {
-            nodes: [root; 12],
+            nodes: [root; MAX_LEVELS],
             parent: root,
         }
     }
@@ -40,7 +41,7 @@ impl Path {
         reads: &mut Steps<L>,
     ) -> Result<Node, WalkFault>
         requires octant { place < 8 }
-        requires height { height < 12 }
+        requires height { height < MAX_DEPTH }
         requires bit { has_child node.now.word place ≡ true }
         requires own { IsWordOf (R.file nodes.old).words (R.file nodes.old).totals.records node.now.number node.now.word }
         requires kept { IsKept (R.file nodes.old).words (R.file nodes.old).totals.records self.old }

@@ -1,6 +1,7 @@
 //! Steps down a file's words.
 
 ghost use Rattle.std.specs.Prelude.{◌≡◌, ℕ, ◌+◌, ◌-◌, ◌*◌, ◌/◌, ◌%◌, ◌^◌, ◌==◌, ◌<◌, ◌≤◌, true, slice_index, List, IfSome, IfOk, IfErr, OnOk};
+ghost use Rattle.svo_base.specs.declared.grids.TheConstants.{MAX_DEPTH};
 ghost use Rattle.octree_specs.specs.Cells.{Cell};
 ghost use Rattle.octree_specs.specs.Formats.{StandFor};
 ghost use Rattle.octree_specs.specs.Walking.{child_number};
@@ -106,7 +107,7 @@ pub fn has_bit(word: u64, place: u64) -> bool
 
 /// The code of the node that a cell lies under, so many levels higher.
 pub fn ancestor(code: u64, height: u32) -> u64
-    requires { height ≤ 12 }
+    requires { height ≤ MAX_DEPTH }
     ensures { result ≡ code / 8 ^ height }
 {
     code >> (3 * height)
@@ -114,7 +115,7 @@ pub fn ancestor(code: u64, height: u32) -> u64
 
 /// The place of a cell's ancestor among its siblings.
 pub fn octant(code: u64, height: u32) -> u64
-    requires { height ≤ 12 }
+    requires { height ≤ MAX_DEPTH }
     ensures { result ≡ code / 8 ^ height % 8 }
 {
     ancestor(code, height) % 8

@@ -8,6 +8,7 @@ use Rattle.std.proofs.Math.Nat.{one-le-pow, mul-le-mul_left}
 use Rattle.std.proofs.lemmas.Bool.{le-leb}
 use Rattle.std.proofs.lemmas.List.Elements.{All-head, All-tail}
 use Rattle.std.proofs.lemmas.Nat.{from_le_bytes-to_le_bytes_4, from_le_bytes-to_le_bytes_8}
+use Rattle.svo_base.specs.declared.grids.TheConstants.{MAX_DEPTH}
 use Rattle.svo_base.specs.GridShape.{GridShape, IsGrid}
 use Rattle.svo_base.specs.GridLimits.{is_within, grid_from}
 use Rattle.octree_specs.specs.Formats.{IsFormat}
@@ -85,7 +86,7 @@ grid_made : (grid : GridShape) → IsGrid grid → grid_from (pos grid.depth) gr
 unfolding grid_from
 grid_made grid limits =
     let deep : nat_le 1 grid.depth ≡ true = le-leb 1 grid.depth limits.halved in
-    let shallow : nat_le grid.depth 12 ≡ true = le-leb grid.depth 12 limits.shallow in
+    let shallow : nat_le grid.depth MAX_DEPTH ≡ true = le-leb grid.depth MAX_DEPTH limits.shallow in
     let near : list_all (is_within (2 ^ 30)) grid.origin ≡ true = all_near grid.origin limits.near in
     let solid : nat_le 1 grid.cell ≡ true = le-leb 1 grid.cell limits.solid in
     let narrow : nat_le (grid.cell * 2 ^ grid.depth) (2 ^ 32) ≡ true = le-leb (grid.cell * 2 ^ grid.depth) (2 ^ 32) limits.narrow in

@@ -7,6 +7,7 @@ use Rattle.std.proofs.lemmas.Bool.{cases_Bool, cases_eq, or_cases}
 use Rattle.std.proofs.lemmas.List.{append_assoc, length-append, length-map, get_or-append-add, nil_from_length}
 use Rattle.std.proofs.lemmas.List.Elements.{All-nil, All-cons, All-head, All-tail, All-append, All-push, All-map, All-get_or}
 use Rattle.std.proofs.lemmas.List.Sums.{sum_by-cons}
+use Rattle.svo_base.specs.declared.grids.TheConstants.{MAX_DEPTH}
 use Rattle.svo_base.specs.GridShape.{GridShape, IsGrid}
 use Rattle.octree_specs.specs.Cells.{Cell, codes_of, AreFacedCells}
 use Rattle.octree_specs.specs.Formats.{AreCellsIn, face_leaves, mask_leaves, leaves_of, levels_of, file_words}
@@ -55,12 +56,12 @@ below_wide leaves wide (suc height) node at within =
     (turn_within IsWide (2 ^ 42) size (λ child from. word_of leaves height child from ∷ [])
     (λ child from fits. All-cons IsWide (word_of leaves height child from) [] (word_wide leaves wide height child from fits) (All-nil IsWide)) at children total)
 
-size-small : (leaves : List Leaf) (levels : ℕ) → levels ≤ 12 → size_of leaves levels 0 ≤ 2 ^ 42
+size-small : (leaves : List Leaf) (levels : ℕ) → levels ≤ MAX_DEPTH → size_of leaves levels 0 ≤ 2 ^ 42
 size-small leaves levels shallow =
     let power : 8 ^ suc levels ≤ 8 ^ 13 = pow-le-pow_right {n = 8} (lit< tt) {i = suc levels} {j = 13} (omega arith) in
     omega (arith, size-few leaves levels 0)
 
-words_wide : (leaves : List Leaf) → ((node : ℕ) → IsWide (leaf_word leaves node)) → (levels : ℕ) → levels ≤ 12 → All IsWide (words_of leaves levels)
+words_wide : (leaves : List Leaf) → ((node : ℕ) → IsWide (leaf_word leaves node)) → (levels : ℕ) → levels ≤ MAX_DEPTH → All IsWide (words_of leaves levels)
 unfolding words_of
 words_wide leaves wide levels shallow =
     let within : 0 + size_of leaves levels 0 ≤ 2 ^ 42 = omega (arith, size-small leaves levels shallow) in
@@ -101,7 +102,7 @@ mask_marked levels cells inside node nonempty =
 
 -- ---- in either format
 
-file_wide : (format levels : ℕ) (cells : List Cell) → AreCellsIn format (suc levels) cells → suc levels ≤ 12 → All IsWide (file_words format (suc levels) cells)
+file_wide : (format levels : ℕ) (cells : List Cell) → AreCellsIn format (suc levels) cells → suc levels ≤ MAX_DEPTH → All IsWide (file_words format (suc levels) cells)
 file_wide format levels cells are shallow = elim are.known [
   | inl one ↦
       subst (λ f. All IsWide (file_words f (suc levels) cells)) (sym one)
@@ -121,10 +122,10 @@ file_marked format levels cells are several = elim are.known [
       subst (All IsMarked) (sym here) (words_marked (face_leaves cells) (face_marked cells) (suc levels) (omega (arith, several, ap length here)))
 ]
 
-file_few : (format levels : ℕ) (cells : List Cell) → suc levels ≤ 12 → length (file_words format (suc levels) cells) < 2 ^ 64
+file_few : (format levels : ℕ) (cells : List Cell) → suc levels ≤ MAX_DEPTH → length (file_words format (suc levels) cells) < 2 ^ 64
 unfolding file_words
 file_few format levels cells shallow =
-    let lower : levels_of format (suc levels) ≤ 12 = elim (format == 1) as (λ b. cond b (suc levels - 1) (suc levels) ≤ 12) [ true ↦ omega arith | false ↦ shallow ] in
+    let lower : levels_of format (suc levels) ≤ MAX_DEPTH = elim (format == 1) as (λ b. cond b (suc levels - 1) (suc levels) ≤ MAX_DEPTH) [ true ↦ omega arith | false ↦ shallow ] in
     omega (arith, length-words_of (leaves_of format (suc levels) cells) (levels_of format (suc levels)), size-small (leaves_of format (suc levels) cells) (levels_of format (suc levels)) lower)
 
 -- no more cells than codes
@@ -155,9 +156,9 @@ file_framed format grid cells bytes file =
     let deep : (levels : ℕ) × (grid.depth ≡ suc levels) = at_depth grid.depth file.limits.halved in
     let levels : ℕ = deep.0 in
     let are : AreCellsIn format (suc levels) cells = subst (λ d. AreCellsIn format d cells) deep.1 file.cells_are in
-    let shallow : suc levels ≤ 12 = omega (arith, deep.1, file.limits.shallow) in
+    let shallow : suc levels ≤ MAX_DEPTH = omega (arith, deep.1, file.limits.shallow) in
     let some : (number : ℕ) × (length (file_words format grid.depth cells) ≡ number + 1) = some_words format grid.depth cells in
-    let power : 8 ^ suc levels ≤ 8 ^ 12 = pow-le-pow_right {n = 8} (lit< tt) {i = suc levels} {j = 12} shallow in
+    let power : 8 ^ suc levels ≤ 8 ^ MAX_DEPTH = pow-le-pow_right {n = 8} (lit< tt) {i = suc levels} {j = MAX_DEPTH} shallow in
     record {
       known = file.cells_are.known;
       limits = file.limits;

@@ -10,4 +10,3 @@ pub mod Steps
 pub mod TokenRuns
 pub mod WholeReads
 pub mod WithinRanges
-pub mod WordLists

@@ -3,7 +3,7 @@
 ghost use Rattle.std.specs.Prelude.{◌≡◌, Some, IfSome, false};
 ghost use Rattle.ply_reader.specs.Declarations.{is_role, is_part};
 ghost use Rattle.ply_reader.specs.HeaderRules.{is_only, is_ascii_format, count_of, element_of, property_of, single_property, list_property, is_list, is_too_many};
-ghost use Rattle.ply_reader.specs.LineWords.{texts};
+ghost use Rattle.text_words.specs.LineWords.{texts};
 ghost use Rattle.ply_reader.specs.Ranges.{IsFew};
 
 use crate::elements::{Element, Role};

@@ -8,11 +8,14 @@ use crate::declarations::{
 };
 use crate::elements::{Element, Role};
 use crate::fault::{PlyFault, PlyKind};
-use crate::line_words::line_words;
 use crate::names::{Keyword, is_whole_type, keyword_of};
 use crate::properties::{Part, Property};
 use crate::slices::{all_from, first_ones};
 use arrayvec::ArrayVec;
+use text_words::line_words;
+
+/// How many words of a line are looked at: the longest line that is not passed over has five.
+const MOST_WORDS: usize = 6;
 
 /// The most elements of a header.
 const MAX_ELEMENTS: usize = 16;
@@ -40,7 +43,8 @@ impl Header {
     ghost use Rattle.ply_reader.specs.HeaderRules.{TakesLine, TakesBy, first_rules, format_rules, element_rules, property_rules, end_rules, element_of, property_of, with_beginning, with_format, with_one_element, with_one_property, first_broken, is_misplaced, has_vertices, HasMesh};
     ghost use Rattle.ply_reader.specs.Ranges.{IsFew};
     ghost use Rattle.ply_reader.specs.HeaderSteps.{cut_off};
-    ghost use Rattle.ply_reader.specs.LineWords.{line_words, texts};
+    ghost use Rattle.ply_reader.specs.LineWords.{line_words};
+    ghost use Rattle.text_words.specs.LineWords.{texts};
 
     /// A header of no line.
     pub fn new() -> Header
@@ -60,12 +64,12 @@ impl Header {
     ///
     /// The kind of the first rule that the line breaks, after the lines that were taken before; the
     /// header is then as it was.
-    #[tactic(auto, unfolding(crate::specs::HeaderRules::rules_of, crate::specs::HeaderRules::after, crate::specs::HeaderRules::is_end))]
+    #[tactic(auto, unfolding(crate::specs::LineWords::line_words, crate::specs::HeaderRules::rules_of, crate::specs::HeaderRules::after, crate::specs::HeaderRules::is_end))]
     pub fn take(&mut self, line: &[u8]) -> Result<bool, PlyKind>
         ensures line { TakesLine (line_words line.now) (declared self.old) (declared self.new) result }
         ensures mesh { IfOk result (λ ended. ended ≡ true → HasMesh (declared self.new)) }
     {
-        let words = line_words(line);
+        let words: ArrayVec<&[u8], MOST_WORDS> = line_words(line);
         let words = words.as_slice();
         if !self.begun {
             return self.take_first(words);

@@ -11,7 +11,6 @@ mod fault;
 mod header;
 mod header_lines;
 mod layouts;
-mod line_words;
 mod mesh;
 mod names;
 mod properties;

@@ -2,7 +2,7 @@
 
 ghost use Rattle.std.specs.Prelude.{◌≡◌};
 ghost use Rattle.ply_reader.specs.Names.{scalar_of, is_whole_type, role_of, part_of, coordinate_of, is_either, keyword_of};
-ghost use Rattle.ply_reader.specs.LineWords.{texts};
+ghost use Rattle.text_words.specs.LineWords.{texts};
 
 use crate::elements::Role;
 use crate::properties::{Part, Scalar};

@@ -9,18 +9,18 @@ use Rattle.ply_text.specs.declared.fault.TextFault.TheVariants.{ReadFault, TooLo
 use Rattle.ply_text.specs.declared.run.Run.{Run}
 use Rattle.ply_text.specs.declared.run.Run.TheVariants.{White}
 use Rattle.ply_text.specs.declared.tokens.Tokens.{Tokens}
-use Rattle.ply_text.specs.declared.tokens.Span.{Span}
+use Rattle.ply_text.specs.declared.tokens.PieceRange.{PieceRange}
 use Rattle.ply_text.specs.Pieces.{Piece, belongs}
 use Rattle.ply_text.specs.NextPieces.{run_size, room_at, white_size}
 use Rattle.ply_text.specs.Reading.{held, left_of}
 use Rattle.ply_text.specs.Calls.{fault_end}
 
 -- the bytes of a block that a span names
-abbrev pub piece_in : List ℕ → Span → Piece
+abbrev pub piece_in : List ℕ → PieceRange → Piece
 piece_in block span = record { place = span.place; bytes = slice_range block span.begin span.end }
 
 -- a span of a block
-abbrev pub LiesIn : List ℕ → Span → Type 0
+abbrev pub LiesIn : List ℕ → PieceRange → Type 0
 LiesIn block span = (span.begin ≤ span.end) × (span.end ≤ length block)
 
 -- the fault of a run that is too long, or one that any run may have

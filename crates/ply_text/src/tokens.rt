@@ -27,7 +27,7 @@ pub struct Token<'a> {
 
 /// Where a piece of the text lies in the block.
 #[derive(Clone, Copy, Debug)]
-struct Span {
+struct PieceRange {
     place: u64,
     begin: usize,
     end: usize,
@@ -149,7 +149,7 @@ impl<'a, I: ByteSource> Tokens<'a, I> {
         found
     }
 
-    fn pass_line(&mut self) -> Result<Option<Span>, TextFault>
+    fn pass_line(&mut self) -> Result<Option<PieceRange>, TextFault>
         ensures same { SameLent self.old self.new }
         ensures call { LineCall (reading self.old) (reading self.new)
             (answered (piece_in self.new.block.now) result) }
@@ -163,7 +163,7 @@ impl<'a, I: ByteSource> Tokens<'a, I> {
         found
     }
 
-    fn pass_token(&mut self) -> Result<Option<Span>, TextFault>
+    fn pass_token(&mut self) -> Result<Option<PieceRange>, TextFault>
         ensures same { SameLent self.old self.new }
         ensures call { TokenCall (reading self.old) (reading self.new)
             (answered (piece_in self.new.block.now) result) }
@@ -179,7 +179,7 @@ impl<'a, I: ByteSource> Tokens<'a, I> {
 
     // The shared loan of the block stands in a method of its own: only so the caller learns what the
     // reader is after the loan.
-    fn line(&self, span: Span) -> Line<'_>
+    fn line(&self, span: PieceRange) -> Line<'_>
         requires { LiesIn self.now.block.now span }
         ensures { line_piece result ≡ piece_in self.now.block.now span }
     {
@@ -189,7 +189,7 @@ impl<'a, I: ByteSource> Tokens<'a, I> {
         }
     }
 
-    fn token(&self, span: Span) -> Token<'_>
+    fn token(&self, span: PieceRange) -> Token<'_>
         requires { LiesIn self.now.block.now span }
         ensures { token_piece result ≡ piece_in self.now.block.now span }
     {

@@ -1,9 +1,7 @@
 mod AnswerTexts
-mod Digits
 mod Endings
 mod Faces
 mod LineRuns
 mod OneAnswer
 mod Overs
 mod Taking
-mod WordLists

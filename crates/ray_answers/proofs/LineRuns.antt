@@ -11,8 +11,9 @@ use Rattle.ply_text.proofs.Callers.{stands_after}
 use Rattle.ray_fraction.specs.RayShape.{RayShape}
 use Rattle.ray_fraction.specs.RayFrom.{ray_from}
 use Rattle.ray_fraction.specs.declared.rays.RayFault.{RayFault}
+use Rattle.text_words.specs.Numbers.{three_from}
 use Rattle.ray_answers.specs.LineWords.{line_words}
-use Rattle.ray_answers.specs.RayLines.{line_meaning, ray_of, in_range, three_from, stop_of}
+use Rattle.ray_answers.specs.RayLines.{line_meaning, ray_of, in_range, stop_of}
 use Rattle.ray_answers.specs.RayTexts.{RayText, with_line, with_meaning}
 use Rattle.ray_answers.specs.Casting.{stop_place}
 use Rattle.ray_answers.specs.LineCalls.{ReadsLine, IsTextStop, line_of}

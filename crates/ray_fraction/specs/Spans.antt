@@ -3,15 +3,15 @@ use Rattle.std.specs.Prelude.{ℕ, ◌≤◌, ◌↔◌, Option, None, Some, ⊤
 use Rattle.ray_fraction.specs.Fractions.{IsUpTo}
 use Rattle.ray_fraction.specs.declared.fractions.Fraction.{Fraction}
 use Rattle.ray_fraction.specs.declared.spans.Interval.{Interval}
-use Rattle.ray_fraction.specs.declared.spans.Span.{Span}
-use Rattle.ray_fraction.specs.declared.spans.Span.TheVariants.{Never, Always, Between}
+use Rattle.ray_fraction.specs.declared.spans.TimeSpan.{TimeSpan}
+use Rattle.ray_fraction.specs.declared.spans.TimeSpan.TheVariants.{Never, Always, Between}
 
 -- n / m is neither before nor after
 abbrev pub IsFromUntil : Fraction → Fraction → ℕ → ℕ → Type 0
 IsFromUntil from until n m = IsUpTo from.n from.m n m × IsUpTo n m until.n until.m
 
 -- n / m is a time of the span
-abbrev pub IsDuring : Span → ℕ → ℕ → Type 0
+abbrev pub IsDuring : TimeSpan → ℕ → ℕ → Type 0
 IsDuring Never n m = ⊥
 IsDuring Always n m = ⊤
 IsDuring (Between interval) n m = IsFromUntil interval.from interval.until n m

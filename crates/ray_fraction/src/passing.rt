@@ -8,7 +8,7 @@ ghost use Rattle.ray_fraction.specs.Spans.{AreSameTimes, IsDuringSome};
 
 use crate::rays::Ray;
 use crate::slabs::crossing;
-use crate::spans::{Interval, Span};
+use crate::spans::{Interval, TimeSpan};
 use crate::times::Time;
 use svo_base::Cube;
 
@@ -44,8 +44,8 @@ fn times_in(ray: &Ray, cube: &Cube) -> Option<Interval>
     let y = crossing(ray, cube, 1);
     let z = crossing(ray, cube, 2);
     match x.meet(&y).meet(&z) {
-        Span::Between(times) => Some(times),
+        TimeSpan::Between(times) => Some(times),
         // A ray moves along some axis, so that it is not always between the planes across it.
-        Span::Never | Span::Always => None,
+        TimeSpan::Never | TimeSpan::Always => None,
     }
 }

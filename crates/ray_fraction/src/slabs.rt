@@ -8,7 +8,7 @@ ghost use Rattle.ray_fraction.specs.Spans.{AreSameTimes, HasGone, IsDuring};
 
 use crate::fractions::Fraction;
 use crate::rays::Ray;
-use crate::spans::Span;
+use crate::spans::TimeSpan;
 use std::cmp::Ordering;
 use svo_base::Cube;
 
@@ -22,11 +22,11 @@ struct Approach {
 }
 
 /// When the ray is between the planes across an axis, or on one of them.
-pub fn crossing(ray: &Ray, cube: &Cube, axis: usize) -> Span
+pub fn crossing(ray: &Ray, cube: &Cube, axis: usize) -> TimeSpan
     requires axis { axis < 3 }
     requires planes { HasPlanes cube.now }
     ensures times { AreSameTimes (IsDuring result) (IsInAlong axis ray.now cube.now) }
-    ensures always { result ≡ Span.Always → slice_index_or ray.now.direction axis (pos 0) ≡ pos 0 }
+    ensures always { result ≡ TimeSpan.Always → slice_index_or ray.now.direction axis (pos 0) ≡ pos 0 }
     ensures limits { IsRay ray.now }
 {
     passage(&approach_along(ray, cube, axis))
@@ -61,12 +61,12 @@ fn difference(plane: i64, origin: i64) -> i64
 }
 
 /// When what begins at 0 is between the planes.
-fn passage(approach: &Approach) -> Span
+fn passage(approach: &Approach) -> TimeSpan
     requires low { unsigned_abs approach.now.low ≤ 2 ^ 41 }
     requires high { unsigned_abs approach.now.high ≤ 2 ^ 41 }
     requires speed { unsigned_abs approach.now.speed ≤ 2 ^ 30 }
     ensures times { AreSameTimes (IsDuring result) (HasGone approach.now.low approach.now.high approach.now.speed) }
-    ensures always { result ≡ Span.Always → approach.now.speed ≡ pos 0 }
+    ensures always { result ≡ TimeSpan.Always → approach.now.speed ≡ pos 0 }
 {
     match approach.speed.cmp(&0) {
         Ordering::Less => forward(&turned(approach)),
@@ -92,26 +92,26 @@ fn turned(approach: &Approach) -> Approach
 }
 
 /// When what stands at 0 is between the planes.
-fn standing(approach: &Approach) -> Span
+fn standing(approach: &Approach) -> TimeSpan
     requires { approach.now.speed ≡ pos 0 }
     ensures { AreSameTimes (IsDuring result) (HasGone approach.now.low approach.now.high approach.now.speed) }
 {
     if approach.low <= 0 && approach.high >= 0 {
-        Span::Always
+        TimeSpan::Always
     } else {
-        Span::Never
+        TimeSpan::Never
     }
 }
 
 /// When what goes on from 0 is between the planes: from when it reaches the lower one, or from the
 /// start where that plane lies behind, until it reaches the upper one.
-fn forward(approach: &Approach) -> Span
+fn forward(approach: &Approach) -> TimeSpan
     requires { pos 0 <ℤ approach.now.speed }
     ensures times { AreSameTimes (IsDuring result) (HasGone approach.now.low approach.now.high approach.now.speed) }
-    ensures ends { result ≢ Span.Always }
+    ensures ends { result ≢ TimeSpan.Always }
 {
     if approach.high < 0 {
-        return Span::Never;
+        return TimeSpan::Never;
     }
     let speed = approach.speed.unsigned_abs();
     let from = Fraction {
@@ -122,5 +122,5 @@ fn forward(approach: &Approach) -> Span
         n: approach.high.unsigned_abs(),
         m: speed,
     };
-    Span::between(from, until)
+    TimeSpan::between(from, until)
 }

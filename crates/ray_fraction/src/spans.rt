@@ -14,37 +14,37 @@ pub struct Interval {
 
 /// The times from 0 on at which something holds, where they have no gap.
 #[derive(Clone, Copy)]
-pub enum Span {
+pub enum TimeSpan {
     Never,
     Always,
     Between(Interval),
 }
 
-impl Span {
+impl TimeSpan {
     ghost use Rattle.std.specs.Prelude.{◌≡◌, ◌≢◌};
     ghost use Rattle.ray_fraction.specs.Spans.{AreSameTimes, IsFromUntil, IsDuring};
 
     /// The times from one on until another.
-    pub fn between(from: Fraction, until: Fraction) -> Span
+    pub fn between(from: Fraction, until: Fraction) -> TimeSpan
         ensures times { AreSameTimes (IsDuring result) (IsFromUntil from until) }
-        ensures ends { result ≢ Span.Always }
+        ensures ends { result ≢ TimeSpan.Always }
     {
         if from.is_after(&until) {
-            Span::Never
+            TimeSpan::Never
         } else {
-            Span::Between(Interval { from, until })
+            TimeSpan::Between(Interval { from, until })
         }
     }
 
     /// The times that both have.
-    pub fn meet(&self, other: &Span) -> Span
+    pub fn meet(&self, other: &TimeSpan) -> TimeSpan
         ensures times { AreSameTimes (IsDuring result) (λ n m. IsDuring self.now n m × IsDuring other.now n m) }
-        ensures always { result ≡ Span.Always → (self.now ≡ Span.Always) × (other.now ≡ Span.Always) }
+        ensures always { result ≡ TimeSpan.Always → (self.now ≡ TimeSpan.Always) × (other.now ≡ TimeSpan.Always) }
     {
         match (self, other) {
-            (Span::Never, _) | (_, Span::Never) => Span::Never,
-            (Span::Always, span) | (span, Span::Always) => *span,
-            (Span::Between(a), Span::Between(b)) => a.meet(b),
+            (TimeSpan::Never, _) | (_, TimeSpan::Never) => TimeSpan::Never,
+            (TimeSpan::Always, span) | (span, TimeSpan::Always) => *span,
+            (TimeSpan::Between(a), TimeSpan::Between(b)) => a.meet(b),
         }
     }
 }
@@ -54,12 +54,12 @@ impl Interval {
     ghost use Rattle.ray_fraction.specs.Spans.{AreSameTimes, IsFromUntil, IsDuring};
 
     /// The times that both have.
-    fn meet(&self, other: &Interval) -> Span
+    fn meet(&self, other: &Interval) -> TimeSpan
         ensures times { AreSameTimes (IsDuring result) (λ n m. IsFromUntil self.now.from self.now.until n m × IsFromUntil other.now.from other.now.until n m) }
-        ensures ends { result ≢ Span.Always }
+        ensures ends { result ≢ TimeSpan.Always }
     {
         let from = self.from.later(&other.from);
         let until = self.until.earlier(&other.until);
-        Span::between(from, until)
+        TimeSpan::between(from, until)
     }
 }

@@ -4,6 +4,7 @@ use Rattle.std.specs.Prelude.{nat_lt}
 use Rattle.std.proofs.Math.Nat.{mul-le-mul_right, le_of_mul-le-mul_right, pow-le-pow_right, pow-suc}
 use Rattle.std.proofs.lemmas.Bool.{cases_Bool, or_parts, or_cases}
 use Rattle.std.proofs.lemmas.Bool.Decides.{Decides-ltb}
+use Rattle.svo_base.specs.declared.grids.TheConstants.{MAX_DEPTH}
 use Rattle.octree_specs.specs.Walking.{child_number}
 use Rattle.ray_fraction.specs.Fractions.{IsUpTo}
 use Rattle.ray_fraction.specs.Hits.{Precedes}
@@ -30,8 +31,8 @@ child_code flight spot place is octant =
 pub code_small : (flight : Flight) (spot : Spot) (place : ℕ) → IsFlight flight → IsSpot flight spot → place < 8 → 8 * spot.code + place < 2 ^ 36
 code_small flight spot place flies is octant =
     let below : 8 * spot.code + place < 8 ^ (flight.grid.depth - (spot.height - 1)) = child_code flight spot place is octant in
-    let shallow : flight.grid.depth - (spot.height - 1) ≤ 12 = omega (arith, flies.grid.shallow) in
-    let power : 8 ^ (flight.grid.depth - (spot.height - 1)) ≤ 8 ^ 12 = pow-le-pow_right {n = 8} (lit≤ tt) {i = flight.grid.depth - (spot.height - 1)} {j = 12} shallow in
+    let shallow : flight.grid.depth - (spot.height - 1) ≤ MAX_DEPTH = omega (arith, flies.grid.shallow) in
+    let power : 8 ^ (flight.grid.depth - (spot.height - 1)) ≤ 8 ^ MAX_DEPTH = pow-le-pow_right {n = 8} (lit≤ tt) {i = flight.grid.depth - (spot.height - 1)} {j = MAX_DEPTH} shallow in
     omega (arith, below, power)
 
 pub child_stay : (flight : Flight) (spot : Spot) (k : ℕ) (stay : Stay) → IsSpot flight spot

@@ -4,6 +4,7 @@ use Rattle.std.proofs.Common.{ℤ, pos, negsuc, ◌<ℤ◌, Ok}
 use Rattle.std.specs.Prelude.{cond, nat_le, int_lt}
 use Rattle.std.proofs.lemmas.Bool.Decides.{nat_tests}
 use Rattle.std.proofs.lemmas.Int.{ints}
+use Rattle.svo_base.specs.declared.grids.TheConstants.{MAX_DEPTH}
 use Rattle.octree_specs.specs.MemoryPlan.{base_size, slots_size, finest_split, least_memory, split_of, plan_at, plan_of}
 use Rattle.room_plan.specs.declared.planning.MemPlan.{MemPlan}
 use Rattle.room_plan.specs.Planning.{bytes_within, mem_plan, plan_from}
@@ -70,7 +71,7 @@ none_fits depth limit none =
     grind (arith, nat_tests, fails)
 
 -- no depth needs more than is accepted
-pub least_is_accepted : (depth : ℕ) → depth ≤ 12 → least_memory depth ≤ 2 ^ 31
+pub least_is_accepted : (depth : ℕ) → depth ≤ MAX_DEPTH → least_memory depth ≤ 2 ^ 31
 least_is_accepted depth deepest =
     let few : depth - finest_split depth ≤ 8 = omega (arith, deepest) in
     omega (arith, deepest, cells_within (depth - finest_split depth) 8 few)

@@ -3,7 +3,7 @@ use Rattle.std.specs.Prelude.{ℕ, ◌+◌, ◌*◌, ℤ, List, drop}
 use Rattle.std.specs.Int.{w32, cast_signed}
 use Rattle.byteorder.specs.Endian.{little_number}
 use Rattle.svo_base.specs.declared.shapes.Point.{Point}
-pub use Rattle.svo_base.specs.Spans.{IsPoint}
+pub use Rattle.svo_base.specs.Boxes.{IsPoint}
 
 -- the number behind so many others
 abbrev pub number_at : List ℕ → ℕ → ℕ

@@ -1,5 +1,6 @@
 -- When a plan of memory is refused, and what it is else.
 use Rattle.std.specs.Prelude.{◌≡◌, ℕ, ◌^◌, ◌≤◌, Bool, true, false, ℤ, pos, negsuc, int_lt, Option, None, Some, Result, Ok, Err}
+use Rattle.svo_base.specs.declared.grids.TheConstants.{MAX_DEPTH}
 use Rattle.octree_specs.specs.MemoryPlan.{Plan, plan_of, least_memory}
 use Rattle.room_plan.specs.declared.planning.MemPlan.{MemPlan}
 use Rattle.room_plan.specs.declared.planning.PlanFault.{PlanFault}
@@ -32,6 +33,6 @@ plan_from depth limit = at_most_two_gibibytes depth limit (int_lt (pos (2 ^ 31))
 -- it is the plan for some limit that is accepted
 pub record IsValid (plan : MemPlan) : Type 0 where
   pub some : 1 ≤ plan.depth
-  pub deepest : plan.depth ≤ 12
+  pub deepest : plan.depth ≤ MAX_DEPTH
   pub limit : ℤ
   pub planned : plan_from plan.depth limit ≡ Ok plan

@@ -1,6 +1,7 @@
 //! How much memory a build is given, and for what.
 
 ghost use Rattle.std.specs.Prelude.{◌≡◌, ◌+◌, ◌-◌, ◌*◌, ◌^◌, ◌<◌, ◌≤◌, ◌≤ℤ◌, ◌<ℤ◌, ◌↔◌, pos, Err, IfOk};
+ghost use Rattle.svo_base.specs.declared.grids.TheConstants.{MAX_DEPTH};
 ghost use Rattle.octree_specs.specs.MemoryPlan.{base_size, slots_size, finest_split, least_memory, split_of, plan_at, plan_need};
 ghost use Rattle.room_plan.specs.Planning.{bytes_within, mem_plan, plan_with, plan_from, IsValid};
 
@@ -61,7 +62,7 @@ pub enum PlanFault {
 #[tactic(auto, unfolding(crate::specs::Planning::plan_from, octree_specs::specs::MemoryPlan::plan_of))]
 pub fn plan(depth: u32, limit: i64) -> Result<MemPlan, PlanFault>
     requires some { 1 ≤ depth }
-    requires deepest { depth ≤ 12 }
+    requires deepest { depth ≤ MAX_DEPTH }
     ensures plan { result ≡ plan_from depth limit }
     ensures large { (result ≡ Err PlanFault.TooLarge) ↔ (pos (2 ^ 31) <ℤ limit) }
     ensures small { (result ≡ Err (PlanFault.TooSmall (least_memory depth))) ↔ (limit <ℤ pos (least_memory depth)) }
@@ -87,7 +88,7 @@ fn bytes_of(limit: i64) -> u64
 
 /// The least split whose slots find room beside what every build has.
 fn split_for(depth: u32, limit: u64) -> Option<u32>
-    requires { depth ≤ 12 }
+    requires { depth ≤ MAX_DEPTH }
     ensures { result ≡ split_of depth limit }
 {
     (0..depth.min(FINEST_SPLIT) + 1).find(|split| size_with(depth, *split) <= limit)
@@ -95,7 +96,7 @@ fn split_for(depth: u32, limit: u64) -> Option<u32>
 
 /// The bytes of what every build has and of a part's slots.
 fn size_with(depth: u32, split: u32) -> u64
-    requires depth { depth ≤ 12 }
+    requires depth { depth ≤ MAX_DEPTH }
     requires split { split ≤ depth }
     ensures { result ≡ base_size depth + slots_size depth split }
 {
@@ -104,7 +105,7 @@ fn size_with(depth: u32, split: u32) -> u64
 
 /// How many cells there are under a node so many levels above them.
 fn cells(height: u32) -> u64
-    requires { height ≤ 12 }
+    requires { height ≤ MAX_DEPTH }
     ensures value { result ≡ 8 ^ height }
     ensures most { result ≤ 2 ^ 36 }
 {
@@ -114,7 +115,7 @@ fn cells(height: u32) -> u64
 /// The plan at a split whose slots find room.
 #[tactic(auto, unfolding(octree_specs::specs::MemoryPlan::plan_at))]
 fn plan_for(depth: u32, limit: u64, split: u32) -> MemPlan
-    requires depth { depth ≤ 12 }
+    requires depth { depth ≤ MAX_DEPTH }
     requires split { split ≤ depth }
     requires fits { base_size depth + slots_size depth split ≤ limit }
     requires limit { limit ≤ 2 ^ 31 }

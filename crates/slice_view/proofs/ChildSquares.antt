@@ -1,6 +1,7 @@
 -- The squares of a root and of children.
 use Rattle.std.proofs.Common.{◌≡◌, ℕ, suc, ◌+◌, ◌-◌, ◌*◌, ◌/◌, ◌%◌, ◌^◌, ◌<◌, ◌≤◌, sym, ap, subst, ◌∙◌, arith, lit<}
 use Rattle.std.proofs.Math.Nat.{pow-suc, pow-le-pow_right}
+use Rattle.svo_base.specs.declared.grids.TheConstants.{MAX_DEPTH}
 use Rattle.morton_code.proofs.Children.{halves_coordinates}
 use Rattle.morton_code.proofs.Coordinates.{coordinate_below, coordinate_of_zero, code_fits}
 use Rattle.morton_code.proofs.Heights.{eight_pos}
@@ -20,13 +21,13 @@ root_square axis depth = record {
 }
 
 -- places of a node of a shallow octree are small, and so is its code
-pub place_small : (axis depth height code place : ℕ) → depth ≤ 12 → place ≡ coordinate_of axis (depth - height) code → place < 2 ^ 12
+pub place_small : (axis depth height code place : ℕ) → depth ≤ MAX_DEPTH → place ≡ coordinate_of axis (depth - height) code → place < 2 ^ MAX_DEPTH
 place_small axis depth height code place shallow is =
     let most : place < 2 ^ (depth - height) = subst (λ n. n < 2 ^ (depth - height)) (sym is) (coordinate_below axis (depth - height) code) in
-    let wider : 2 ^ (depth - height) ≤ 2 ^ 12 = pow-le-pow_right {n = 2} (lit< tt) {i = depth - height} {j = 12} (omega (arith, shallow)) in
+    let wider : 2 ^ (depth - height) ≤ 2 ^ MAX_DEPTH = pow-le-pow_right {n = 2} (lit< tt) {i = depth - height} {j = MAX_DEPTH} (omega (arith, shallow)) in
     omega (arith, most, wider)
 
-pub code_small : (depth height code : ℕ) → depth ≤ 12 → code < 8 ^ (depth - height) → code < 2 ^ 60
+pub code_small : (depth height code : ℕ) → depth ≤ MAX_DEPTH → code < 8 ^ (depth - height) → code < 2 ^ 60
 code_small depth height code shallow below = code_fits (depth - height) code (omega (arith, shallow)) below
 
 -- a child's place along an axis

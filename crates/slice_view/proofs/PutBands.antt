@@ -3,6 +3,7 @@ use Rattle.std.proofs.Common.{◌≡◌, ℕ, ◌+◌, ◌-◌, ◌*◌, ◌^◌
 use Rattle.std.specs.Prelude.{⊤, min, Result, IfSome}
 use Rattle.std.specs.Io.KnownBytes.{append_known}
 use Rattle.std.specs.List.{range_with_len}
+use Rattle.slice_view.specs.declared.bands.TheConstants.{BAND_EXPONENT}
 use Rattle.octree_specs.specs.Cells.{Cell}
 use Rattle.node_file.proofs.Fronts.{append_twice}
 use Rattle.node_check.specs.Stops.{Puts}
@@ -33,7 +34,7 @@ append_none : (told : Option (List ℕ)) → told ≡ append_known told []
 append_none None = refl
 append_none (Some x) = ap Some (sym (append-nil x))
 
-all_samples : (depth : ℕ) → 2 ^ depth * 2 ^ depth ≡ 2 ^ (depth - min depth (12 - depth)) * (rows_of depth * 2 ^ depth)
+all_samples : (depth : ℕ) → 2 ^ depth * 2 ^ depth ≡ 2 ^ (depth - min depth (BAND_EXPONENT - depth)) * (rows_of depth * 2 ^ depth)
 all_samples depth = ap (λ n. n * 2 ^ depth) (sym (bands_whole depth)) ∙ omega arith
 
 module _ (format depth : ℕ) (axis : Axis) (at root : ℕ) where
@@ -53,18 +54,18 @@ module _ (format depth : ℕ) (axis : Axis) (at root : ℕ) where
       ∙ (append_twice before (map (slice_sample depth axis at cells) (range_with_len 0 (number * (rows_of depth * 2 ^ depth)))) (map (slice_sample depth axis at cells) (range_with_len (number * (rows_of depth * 2 ^ depth)) (rows_of depth * 2 ^ depth)))
       ∙ ap (append_known before) (sym (samples_more (slice_sample depth axis at cells) number (rows_of depth * 2 ^ depth))))))
 
-  pub put_stops : (told : Option (List ℕ)) (before mid after : Option (List ℕ)) (number : ℕ) (band : Band) (stop : AnswerStop) → IsBandOf band depth axis at number → number < 2 ^ (depth - min depth (12 - depth))
+  pub put_stops : (told : Option (List ℕ)) (before mid after : Option (List ℕ)) (number : ℕ) (band : Band) (stop : AnswerStop) → IsBandOf band depth axis at number → number < 2 ^ (depth - min depth (BAND_EXPONENT - depth))
       → PutSoFar told format depth axis at root before mid number → PutBand told format band root mid after (Err stop) → PutAll told format depth axis at root before after (Err stop)
   put_stops None before mid after number band stop is within so_far puts = tt
   put_stops (Some words) before mid after number band stop is within so_far puts = λ cells leads.
-      band_stops before mid after (slice_sample depth axis at cells) number (2 ^ (depth - min depth (12 - depth))) (rows_of depth * 2 ^ depth) (2 ^ depth * 2 ^ depth) stop within (all_samples depth) (so_far cells leads)
+      band_stops before mid after (slice_sample depth axis at cells) number (2 ^ (depth - min depth (BAND_EXPONENT - depth))) (rows_of depth * 2 ^ depth) (2 ^ depth * 2 ^ depth) stop within (all_samples depth) (so_far cells leads)
       (subst (λ w. Stopped mid after w stop) (band_of_picture band depth axis at number cells is) (puts cells (subst (λ d. LeadsOn words format cells d 0 root) (sym is.depth_is) leads)))
 
-  pub put_last : (told : Option (List ℕ)) (before after : Option (List ℕ)) (number : ℕ) → number ≡ 2 ^ (depth - min depth (12 - depth)) → PutSoFar told format depth axis at root before after number
+  pub put_last : (told : Option (List ℕ)) (before after : Option (List ℕ)) (number : ℕ) → number ≡ 2 ^ (depth - min depth (BAND_EXPONENT - depth)) → PutSoFar told format depth axis at root before after number
       → PutAll told format depth axis at root before after (Ok tt)
   put_last None before after number is so_far = tt
   put_last (Some words) before after number is so_far = λ cells leads.
       so_far cells leads ∙ ap (λ n. append_known before (map (slice_sample depth axis at cells) (range_with_len 0 n))) (ap (λ n. n * (rows_of depth * 2 ^ depth)) is ∙ sym (all_samples depth))
 
-pub all_bands : (number end depth height : ℕ) → end ≡ 2 ^ (depth - height) → height ≡ min depth (12 - depth) → number ≡ end → number ≡ 2 ^ (depth - min depth (12 - depth))
+pub all_bands : (number end depth height : ℕ) → end ≡ 2 ^ (depth - height) → height ≡ min depth (BAND_EXPONENT - depth) → number ≡ end → number ≡ 2 ^ (depth - min depth (BAND_EXPONENT - depth))
 all_bands number end depth height is low same = same ∙ (is ∙ ap (λ n. 2 ^ (depth - n)) low)

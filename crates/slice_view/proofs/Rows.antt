@@ -9,6 +9,7 @@ use Rattle.std.proofs.lemmas.Grind.{same_number_lists}
 use Rattle.std.proofs.lemmas.List.{get_or-replicate, get_or-take, length-take-le, map-append}
 use Rattle.std.proofs.lemmas.List.FromFn.{length-map-range_with_len, get_or-map-range_with_len}
 use Rattle.std.proofs.lemmas.Nat.{pow_pos}
+use Rattle.slice_view.specs.declared.bands.TheConstants.{BAND_EXPONENT}
 use Rattle.octree_specs.specs.Cells.{Cell}
 use Rattle.octree_laws.proofs.FirstChildren.{range-add}
 use Rattle.morton_code.proofs.Coordinates.{code_below}
@@ -60,7 +61,7 @@ band_of_picture band depth axis at number cells is =
     ∙ sym (get_or-map-range_with_len (slice_sample depth axis at cells) (number * (rows_of depth * 2 ^ depth)) (rows_of depth * 2 ^ depth) n (number * (rows_of depth * 2 ^ depth) + n) 0 (omega (arith, within, size)) refl)))
   where
     size : band_size band ≡ rows_of depth * 2 ^ depth
-    size = ap (λ d. (band.high - band.low + 1) * 2 ^ d) is.depth_is ∙ ap (λ n. n * 2 ^ depth) (let rows : band.high - band.low + 1 ≡ rows_of depth = omega (arith, is.rows, pow_pos (min depth (12 - depth))) in rows)
+    size = ap (λ d. (band.high - band.low + 1) * 2 ^ d) is.depth_is ∙ ap (λ n. n * 2 ^ depth) (let rows : band.high - band.low + 1 ≡ rows_of depth = omega (arith, is.rows, pow_pos (min depth (BAND_EXPONENT - depth))) in rows)
 
     regrouped : (n : ℕ) → number * (rows_of depth * 2 ^ depth) + n ≡ number * rows_of depth * 2 ^ depth + n
     regrouped n = omega arith

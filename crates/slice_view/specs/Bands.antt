@@ -1,6 +1,8 @@
 -- Some rows of a slice that are painted together, and the squares that nodes take up in them.
 use Rattle.std.specs.Prelude.{◌≡◌, ℕ, ◌+◌, ◌-◌, ◌*◌, ◌/◌, ◌%◌, ◌^◌, ◌<◌, ◌≤◌, ◌==◌, ◌&&◌, nat_le, min, ⊤, Bool, cond, is_some, List, slice_index, map, Result, Ok, Err}
 use Rattle.std.specs.List.{range_with_len}
+use Rattle.slice_view.specs.declared.bands.TheConstants.{BAND_EXPONENT}
+use Rattle.svo_base.specs.declared.grids.TheConstants.{MAX_DEPTH}
 use Rattle.octree_specs.specs.Cells.{Cell}
 use Rattle.octree_specs.specs.NodeCube.{coordinate_of}
 use Rattle.node_check.specs.Walks.{face_at}
@@ -34,7 +36,7 @@ band_size band = (band.high - band.low + 1) * 2 ^ band.depth
 -- rows of one slice, no more than fit into a block of 4096 samples
 pub record IsBand (band : Band) : Type 0 where
   pub halved : 1 ≤ band.depth
-  pub shallow : band.depth ≤ 12
+  pub shallow : band.depth ≤ MAX_DEPTH
   pub at : band.at < 2 ^ band.depth
   pub some : band.low ≤ band.high
   pub high : band.high < 2 ^ band.depth
@@ -79,7 +81,7 @@ PaintsUnder band cells height code old new (Err (Refused number word)) = ⊥
 
 -- as many rows as a block has room for, and the slice has
 abbrev pub rows_of : ℕ → ℕ
-rows_of depth = 2 ^ min depth (12 - depth)
+rows_of depth = 2 ^ min depth (BAND_EXPONENT - depth)
 
 -- the band of this number from the top
 pub record IsBandOf (band : Band) (depth : ℕ) (axis : Axis) (at number : ℕ) : Type 0 where

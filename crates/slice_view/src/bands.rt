@@ -1,10 +1,14 @@
 //! Some rows of a slice.
 
 ghost use Rattle.std.specs.Prelude.{◌≡◌, ◌+◌, ◌-◌, ◌*◌, ◌/◌, ◌^◌, ◌<◌, ◌≤◌, true};
+ghost use Rattle.svo_base.specs.declared.grids.TheConstants.{MAX_DEPTH};
 ghost use Rattle.slice_view.specs.Bands.{IsBand, IsSquare, band_size, crosses};
 
 use crate::axes::Axis;
 use crate::squares::Square;
+
+/// The logarithm of the samples that a block has room for.
+pub const BAND_EXPONENT: u32 = 12;
 
 /// The samples that a block has room for.
 pub const ROOM: usize = 4096;
@@ -23,7 +27,7 @@ pub struct Band {
 impl Band {
     /// Whether the band shows some cells of a node.
     pub fn crosses(&self, square: &Square) -> bool
-        requires { square.now.height ≤ 12 }
+        requires { square.now.height ≤ MAX_DEPTH }
         ensures { result ≡ crosses self.now square.now }
     {
         self.at >> square.height == square.layer
@@ -42,7 +46,7 @@ impl Band {
 
     /// How many samples a row has.
     pub fn width(&self) -> usize
-        requires { self.now.depth ≤ 12 }
+        requires { self.now.depth ≤ MAX_DEPTH }
         ensures { result ≡ 2 ^ self.now.depth }
     {
         1 << self.depth

@@ -1,6 +1,7 @@
 //! The samples of a band, painted node by node.
 
 ghost use Rattle.std.specs.Prelude.{◌≡◌, ℕ, ◌+◌, ◌<◌, ◌≤◌, ◌&&◌, List, IfSome, length};
+ghost use Rattle.svo_base.specs.declared.grids.TheConstants.{MAX_DEPTH};
 ghost use Rattle.octree_specs.specs.Cells.{Cell};
 ghost use Rattle.node_check.specs.Counts.{HasCauseOf, LooksAsReads};
 ghost use Rattle.node_check.specs.Walks.{IsWordOf, LeadsOn, RefusesAbove, has_child};
@@ -58,7 +59,7 @@ const WHITE: u8 = 255;
 /// Whether the child at a place is there, and the band shows some of it.
 fn is_entered(band: &Band, word: u64, place: u64, child: &Square) -> bool
     requires place { place < 8 }
-    requires height { child.now.height ≤ 12 }
+    requires height { child.now.height ≤ MAX_DEPTH }
     ensures { result ≡ (has_child word place && crosses band.now child.now) }
 {
     has_bit(word, place) && band.crosses(child)

@@ -2,6 +2,8 @@
 
 ghost use Rattle.std.specs.Prelude.{◌≡◌, ◌+◌, ◌-◌, ◌*◌, ◌^◌, ◌<◌, ◌≤◌, List, IfSome, map, min};
 ghost use Rattle.std.specs.List.{range_with_len};
+ghost use Rattle.slice_view.specs.declared.bands.TheConstants.{BAND_EXPONENT};
+ghost use Rattle.svo_base.specs.declared.grids.TheConstants.{MAX_DEPTH};
 ghost use Rattle.octree_specs.specs.Cells.{Cell};
 ghost use Rattle.octree_specs.specs.Formats.{StandFor};
 ghost use Rattle.node_check.specs.Counts.{LooksAsReads};
@@ -11,7 +13,7 @@ ghost use Rattle.slice_view.specs.Bands.{IsBand, IsBandOf, band_samples, band_si
 ghost use Rattle.slice_view.specs.Slices.{slice_picture, slice_sample};
 
 use crate::axes::Axis;
-use crate::bands::{Band, ROOM};
+use crate::bands::{BAND_EXPONENT, Band, ROOM};
 use crate::headers::{put, put_header};
 use crate::painting::paint;
 use crate::squares::Square;
@@ -65,7 +67,7 @@ fn put_samples<R: Records, O: ByteSink, L: Ledger>(
     reads: &mut Steps<L>,
 ) -> Result<(), AnswerStop>
     requires halved { 1 ≤ depth }
-    requires shallow { depth ≤ 12 }
+    requires shallow { depth ≤ MAX_DEPTH }
     requires at { at < 2 ^ depth }
     requires own { IsWordOf (R.file nodes.old).words (R.file nodes.old).totals.records root.now.number root.now.word }
     ensures told { IfSome (R.file nodes.old).words (λ words. (cells : List Cell) → LeadsOn words (R.file nodes.old).format cells depth 0 root.now.number → Puts (O.written out.old) (O.written out.new) (map (slice_sample depth axis at cells) (range_with_len 0 (2 ^ depth * 2 ^ depth))) result) }
@@ -84,15 +86,15 @@ fn put_samples<R: Records, O: ByteSink, L: Ledger>(
 
 /// The logarithm of the number of rows of a band: as many as a block has room for.
 fn band_height(depth: u32) -> u32
-    requires { depth ≤ 12 }
-    ensures { result ≡ min depth (12 - depth) }
+    requires { depth ≤ MAX_DEPTH }
+    ensures { result ≡ min depth (BAND_EXPONENT - depth) }
 {
-    depth.min(12 - depth)
+    depth.min(BAND_EXPONENT - depth)
 }
 
 /// The power of 2.
 fn power(exponent: u32) -> u32
-    requires { exponent ≤ 12 }
+    requires { exponent ≤ MAX_DEPTH }
     ensures value { result ≡ 2 ^ exponent }
     ensures some { 1 ≤ result }
     ensures within { result ≤ 4096 }
@@ -103,9 +105,9 @@ fn power(exponent: u32) -> u32
 /// The band of this number from the top.
 fn band_of(depth: u32, axis: Axis, at: u32, number: u32) -> Band
     requires halved { 1 ≤ depth }
-    requires shallow { depth ≤ 12 }
+    requires shallow { depth ≤ MAX_DEPTH }
     requires at { at < 2 ^ depth }
-    requires number { number < 2 ^ (depth - min depth (12 - depth)) }
+    requires number { number < 2 ^ (depth - min depth (BAND_EXPONENT - depth)) }
     ensures band { IsBand result }
     ensures rows { IsBandOf result depth axis at number }
 {

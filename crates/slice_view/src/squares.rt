@@ -1,6 +1,7 @@
 //! The squares that nodes take up in a slice.
 
 ghost use Rattle.std.specs.Prelude.{◌≡◌, ◌+◌, ◌-◌, ◌*◌, ◌/◌, ◌%◌, ◌^◌, ◌<◌, ◌≤◌};
+ghost use Rattle.svo_base.specs.declared.grids.TheConstants.{MAX_DEPTH};
 ghost use Rattle.slice_view.specs.Bands.{IsSquare};
 
 use crate::axes::Axis;
@@ -35,7 +36,7 @@ impl Square {
     /// The child at a place.
     pub fn child(&self, axis: Axis, depth: u32, place: u64) -> Square
         requires square { IsSquare depth axis self.now }
-        requires depth { depth ≤ 12 }
+        requires depth { depth ≤ MAX_DEPTH }
         requires above { 1 ≤ self.now.height }
         requires place { place < 8 }
         ensures square { IsSquare depth axis result }
@@ -54,7 +55,7 @@ impl Square {
 
 /// A child's place along an axis, of its parent's.
 fn half(parent: u32, place: u64, axis: u32) -> u32
-    requires parent { parent < 2 ^ 12 }
+    requires parent { parent < 2 ^ MAX_DEPTH }
     requires axis { axis < 3 }
     ensures { result ≡ 2 * parent + place / 2 ^ axis % 2 }
 {

@@ -6,10 +6,11 @@ use Rattle.std.specs.List.{Contains}
 use Rattle.std.proofs.lemmas.Int.{ints, clamps, fits_signed_from_abs}
 use Rattle.std.proofs.lemmas.List.Elements.{All-push, All-weaker, All-map, All-contains, Contains-append_left, Contains-append_right}
 use Rattle.std.proofs.lemmas.Grind.{div_ceil_times}
-use Rattle.svo_base.specs.declared.spans.Extent.{Extent}
-use Rattle.svo_base.specs.declared.spans.Bounds.{Bounds}
+use Rattle.svo_base.specs.declared.grids.TheConstants.{MAX_DEPTH}
+use Rattle.svo_base.specs.declared.boxes.Extent.{Extent}
+use Rattle.svo_base.specs.declared.boxes.Bounds.{Bounds}
 use Rattle.svo_base.specs.declared.shapes.Point.{Point}
-use Rattle.svo_base.specs.Spans.{IsExtentOf, IsSpanOf, IsPoint, IsNearPoint, IsNearExtent, IsNearSpan}
+use Rattle.svo_base.specs.Boxes.{IsExtentOf, IsBoxOf, IsPoint, IsNearPoint, IsNearExtent, IsNearBox}
 
 last_of : (numbers : List ℤ) (z : ℤ) → Contains (numbers ++ z ∷ []) z
 last_of numbers z = Contains-append_right numbers (z ∷ []) z (search rules)
@@ -52,7 +53,7 @@ least_side width side cell some one wide =
     mul_less : (a b n : ℕ) → a * n < b * n → a < b
     mul_less a b n less = grind (arith, less)
 
-pub side_within : (width side : ℕ) → 0 < side → side ≤ 2 ^ 12 → width ≤ 2 ^ 31 → max (width / side + min 1 (width % side)) 1 * side ≤ 2 ^ 32
+pub side_within : (width side : ℕ) → 0 < side → side ≤ 2 ^ MAX_DEPTH → width ≤ 2 ^ 31 → max (width / side + min 1 (width % side)) 1 * side ≤ 2 ^ 32
 side_within width side some small short =
     let q = width / side + min 1 (width % side) in
     let times = div_ceil_times width side some in
@@ -80,9 +81,9 @@ near_extent at points e near extent =
     (All-contains (λ z. unsigned_abs z ≤ 2 ^ 30) (map at points) e.low numbers extent.least, All-contains (λ z. unsigned_abs z ≤ 2 ^ 30) (map at points) e.high numbers extent.greatest)
 
 -- the box around points that are near 0 is near 0
-pub near_span : (points : List Point) (span : Option Bounds) → All IsNearPoint points → IsSpanOf points span → IsNearSpan span
-near_span points None near is = tt
-near_span points (Some b) near is = (
+pub near_box : (points : List Point) (bounds : Option Bounds) → All IsNearPoint points → IsBoxOf points bounds → IsNearBox bounds
+near_box points None near is = tt
+near_box points (Some b) near is = (
   near_extent (λ p. p.x) points b.x (All-weaker IsNearPoint (λ p. unsigned_abs p.x ≤ 2 ^ 30) (λ p n. n.0) points near) is.0,
   near_extent (λ p. p.y) points b.y (All-weaker IsNearPoint (λ p. unsigned_abs p.y ≤ 2 ^ 30) (λ p n. n.1) points near) is.1,
   near_extent (λ p. p.z) points b.z (All-weaker IsNearPoint (λ p. unsigned_abs p.z ≤ 2 ^ 30) (λ p n. n.2) points near) is.2,

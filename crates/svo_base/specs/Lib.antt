@@ -1,3 +1,3 @@
 pub mod GridShape
 pub mod GridLimits
-pub mod Spans
+pub mod Boxes

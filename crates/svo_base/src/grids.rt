@@ -9,6 +9,9 @@ use std::marker::Model;
 /// The greatest depth of an octree.
 pub const MAX_DEPTH: u32 = 12;
 
+/// The same, as the length of a row with a place for each level.
+pub const MAX_LEVELS: usize = MAX_DEPTH as usize;
+
 /// The greatest size of a component of a grid's origin.
 const ORIGIN_LIMIT: u64 = 1 << 30;
 

@@ -2,16 +2,16 @@
 //! the box around points, the words of a command line, and a counter of steps that costs nothing.
 #![tactic(auto)]
 
+mod boxes;
 mod counting;
 mod grids;
 mod shapes;
-mod spans;
 mod texts;
 
+pub use boxes::{BoundingBox, Bounds, Extent};
 pub use counting::Steps;
-pub use grids::{Grid, GridFault, MAX_DEPTH};
+pub use grids::{Grid, GridFault, MAX_DEPTH, MAX_LEVELS};
 pub use shapes::{Cube, Point, Triangle, Vector};
-pub use spans::{Bounds, Extent, Span};
 pub use texts::Words;
 
 #[cfg(test)]

@@ -1,7 +1,8 @@
 ghost use Rattle.std.specs.Prelude.{◌≡◌, ◌<◌, ◌≤◌, [], ◌∷◌};
-ghost use Rattle.svo_base.specs.Spans.{IsNearPoint, IsFitted};
+ghost use Rattle.svo_base.specs.declared.grids.TheConstants.{MAX_DEPTH};
+ghost use Rattle.svo_base.specs.Boxes.{IsNearPoint, IsFitted};
 
-use crate::{Grid, GridFault, Point, Span, Steps, Words};
+use crate::{BoundingBox, Grid, GridFault, Point, Steps, Words};
 use std::marker::Brand;
 use std::sync::ledger::{Blank, Ledger};
 
@@ -38,13 +39,13 @@ fn fitted(a: &Point, b: &Point, depth: u32) -> Grid
     requires a { IsNearPoint a.now }
     requires b { IsNearPoint b.now }
     requires some { 1 ≤ depth }
-    requires deepest { depth ≤ 12 }
+    requires deepest { depth ≤ MAX_DEPTH }
     ensures { IsFitted depth (a.now ∷ b.now ∷ []) result }
 {
-    let mut span = Span::new();
-    span.add(a);
-    span.add(b);
-    span.grid(depth)
+    let mut bounds = BoundingBox::new();
+    bounds.add(a);
+    bounds.add(b);
+    bounds.grid(depth)
 }
 
 #[test]
@@ -80,7 +81,7 @@ fn grids_are_fitted_to_points(rt: HostRuntime) {
         (far, far, far, 1 << 30),
         "the farthest points"
     );
-    let grid = Span::new().grid(3);
+    let grid = BoundingBox::new().grid(3);
     let [x, y, z] = grid.origin();
     assert_eq!(rt; (x, y, z, grid.cell()), (0, 0, 0, 1), "no point");
 }

@@ -18,7 +18,8 @@ use Rattle.build_core.specs.declared.faults.BuildFault.TheVariants as fault
 use Rattle.build_core.specs.declared.jobs.Built.{Built}
 use Rattle.build_core.specs.declared.jobs.Job.{Job}
 use Rattle.svo_words.specs.declared.build.BuildWords.{BuildWords}
-use Rattle.svo_top.specs.Build.{BuildMeans, IsCutOff, Refused, devices_of}
+use Rattle.build_core.specs.Building.{devices_of}
+use Rattle.svo_top.specs.Build.{BuildMeans, IsCutOff, Refused}
 use Rattle.svo_top.specs.CoreRuns.{BuildsJob}
 use Rattle.svo_top.specs.Endings.{status_of, ending_of, EndsBuild}
 use Rattle.svo_top.specs.Ranges.{RangeIs, job_from, range_of_build}

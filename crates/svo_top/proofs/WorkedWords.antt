@@ -5,7 +5,8 @@ use Rattle.svo_words.specs.Forms.{commands, form_of}
 use Rattle.svo_words.specs.Build.{build_choices, build_numbers, build_from}
 use Rattle.svo_words.specs.Settings.{is_counted, are_counted}
 use Rattle.svo_words.specs.Steps.{step_of, settings_from, settings_in}
-use Rattle.svo_words.specs.Numbers.{number_of, numbers_of}
+use Rattle.text_words.specs.Numbers.{number_of}
+use Rattle.svo_words.specs.Numbers.{numbers_of}
 use Rattle.svo_words.specs.Values.{number_in, number_or, numbers_in, text_or}
 use Rattle.svo_words.specs.declared.commands.Command.TheVariants.{Build}
 use Rattle.svo_words.specs.declared.commands.WordFault.TheVariants.{Command as NoCommand, Options, Value}

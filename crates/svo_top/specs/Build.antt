@@ -7,7 +7,7 @@ use Rattle.ply_reader.specs.PlyMeaning.{PlyMesh, ply_meaning}
 use Rattle.ply_reader.specs.WholeMeshes.{IsReadTo}
 use Rattle.ply_reader.specs.declared.fault.PlyFault.TheVariants.{Refused as IsRefused}
 use Rattle.ply_reader.specs.declared.fault.PlyKind.{PlyKind}
-use Rattle.build_core.specs.Building.{Devices, HasBuilt, HasBegun}
+use Rattle.build_core.specs.Building.{HasBuilt, HasBegun, devices_of}
 use Rattle.build_core.specs.Meshes.{scale_of}
 use Rattle.build_core.specs.declared.jobs.Job.{Job}
 use Rattle.build_core.specs.declared.jobs.Built.{Built}
@@ -21,18 +21,6 @@ use Rattle.svo_top.specs.declared.outcome.InputKind.{InputKind}
 use Rattle.svo_top.specs.declared.outcome.InputKind.TheVariants.{Ply}
 use Rattle.svo_top.specs.declared.outcome.Device.TheVariants.{Scratch, Write}
 use Rattle.svo_top.specs.declared.outcome.RangeFault.{RangeFault}
-
--- the devices over the run, as far as they are told
-abbrev pub devices_of : Change → Change → ScratchChange → Devices
-devices_of input out scratch = record {
-  read_before = input.before;
-  read_after = input.after;
-  written_before = out.before;
-  written_after = out.after;
-  faults_before = out.faults_before;
-  faults_after = out.faults_after;
-  streams = scratch.streams.after;
-}
 
 abbrev pub counts_of : Built → Counts
 counts_of built = record { cells = built.cells; records = built.records; parts = built.parts }

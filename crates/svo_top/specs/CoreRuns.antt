@@ -7,7 +7,7 @@ use Rattle.build_core.specs.declared.faults.BuildFault.{BuildFault}
 use Rattle.build_core.specs.declared.faults.BuildFault.TheVariants.{ReadFault, ScratchFault, WriteFault}
 use Rattle.build_core.specs.declared.jobs.Built.{Built}
 use Rattle.build_core.specs.declared.jobs.Job.{Job}
-use Rattle.svo_top.specs.Build.{devices_of}
+use Rattle.build_core.specs.Building.{devices_of}
 
 -- the file, or why there is none; what the scratch was asked; and which device's count rose
 pub record BuildsJob (job : Job) (place : List ℕ) (input out : Change) (scratch : ScratchChange) (result : Result Built BuildFault) : Type 0 where

@@ -3,7 +3,6 @@ pub mod Answering
 pub mod Choosing
 pub mod CommandTable
 pub mod Counts
-pub mod Digits
 pub mod FormTests
 pub mod Meanings
 pub mod NumberLists

@@ -9,7 +9,8 @@ use Rattle.std.proofs.lemmas.Bool.{cases_Bool, ltb-true, ltb-false}
 use Rattle.std.proofs.lemmas.List.{append_assoc, drop_all, set_split}
 use Rattle.std.proofs.lemmas.List.Splits.{slice_split_first, length-slice_split}
 use Rattle.std.proofs.lemmas.Bool.Decides.{nat_tests}
-use Rattle.svo_words.specs.Numbers.{is_comma, number_of, numbers_of, all_some, digits_of, ◌>>=◌}
+use Rattle.text_words.specs.Numbers.{number_of, digits_of, ◌>>=◌}
+use Rattle.svo_words.specs.Numbers.{is_comma, numbers_of, all_some}
 use Rattle.svo_words.specs.NumberFronts.{number_before}
 
 -- the numbers of the parts, if there are so many parts

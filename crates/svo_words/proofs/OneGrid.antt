@@ -5,7 +5,7 @@ use Rattle.svo_words.specs.Build.{build_numbers, build_from, unless, with_scratc
 use Rattle.svo_words.specs.Forms.{CommandForm, commands, cast_form, check_form, cells_form, has_form, why_form, slice_form, view_form, lift_form, make_form, sum_form}
 use Rattle.svo_words.specs.Lookups.{Lookup}
 use Rattle.svo_words.specs.Meaning.{IsAmong, Means}
-use Rattle.svo_words.specs.Numbers.{◌>>=◌}
+use Rattle.text_words.specs.Numbers.{◌>>=◌}
 use Rattle.svo_words.specs.Settings.{value_of}
 use Rattle.svo_words.specs.Values.{is_set, number_in, number_or, numbers_in, text_or}
 use Rattle.svo_words.specs.Nodes.{check_from, has_from, cells_from, lift_from, cast_from}

@@ -8,7 +8,8 @@ use Rattle.svo_words.specs.Pictures.{slice_choices, slice_values, slice_from, vi
 use Rattle.svo_words.specs.Kinds.{axis_of, kind_of}
 use Rattle.svo_words.specs.Settings.{is_counted, are_counted}
 use Rattle.svo_words.specs.Steps.{step_of, settings_from, settings_in}
-use Rattle.svo_words.specs.Numbers.{number_of, numbers_of}
+use Rattle.text_words.specs.Numbers.{number_of}
+use Rattle.svo_words.specs.Numbers.{numbers_of}
 use Rattle.svo_words.specs.Values.{number_in, number_or, numbers_in, text_in, text_or, axis_in, kind_in}
 use Rattle.svo_words.specs.declared.kinds.AxisWord.TheVariants.{Z}
 use Rattle.svo_words.specs.declared.kinds.KindWord.TheVariants.{Pinhole}

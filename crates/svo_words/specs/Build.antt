@@ -1,7 +1,7 @@
 -- The options of `build`, and what their values make of it.
 use Rattle.std.specs.Prelude.{◌≡◌, ℕ, Bool, not, is_some, true, false, List, [], ◌∷◌, pos, Option, None, Some, option_map, codes}
 use Rattle.svo_words.specs.Choices.{Choice}
-use Rattle.svo_words.specs.Numbers.{◌>>=◌}
+use Rattle.text_words.specs.Numbers.{◌>>=◌}
 use Rattle.svo_words.specs.Tables.{required, required_unless, optional, flag}
 use Rattle.svo_words.specs.Lookups.{Lookup}
 use Rattle.svo_words.specs.Values.{is_set, number_in, number_or, numbers_in, text_or}

@@ -1,7 +1,7 @@
 -- The options of the commands on a node file, and what their values make of them.
 use Rattle.std.specs.Prelude.{List, [], ◌∷◌, pos, Option, Some, codes}
 use Rattle.svo_words.specs.Choices.{Choice}
-use Rattle.svo_words.specs.Numbers.{◌>>=◌}
+use Rattle.text_words.specs.Numbers.{◌>>=◌}
 use Rattle.svo_words.specs.Tables.{required, optional}
 use Rattle.svo_words.specs.Lookups.{Lookup}
 use Rattle.svo_words.specs.Values.{number_in, number_or, text_in}

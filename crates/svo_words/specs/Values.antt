@@ -3,7 +3,8 @@ use Rattle.std.specs.Prelude.{ℕ, Bool, if◌then◌else◌, List, ℤ, Option,
 use Rattle.svo_words.specs.Grammar.{is_separate}
 use Rattle.svo_words.specs.Kinds.{axis_of, kind_of}
 use Rattle.svo_words.specs.Lookups.{Lookup}
-use Rattle.svo_words.specs.Numbers.{number_of, numbers_of, ◌>>=◌}
+use Rattle.text_words.specs.Numbers.{number_of, ◌>>=◌}
+use Rattle.svo_words.specs.Numbers.{numbers_of}
 use Rattle.svo_words.specs.declared.kinds.AxisWord.{AxisWord}
 use Rattle.svo_words.specs.declared.kinds.KindWord.{KindWord}
 

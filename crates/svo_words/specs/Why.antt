@@ -1,7 +1,7 @@
 -- The options of `why`, and what their values make of it.
 use Rattle.std.specs.Prelude.{List, [], ◌∷◌, Option, Some, codes}
 use Rattle.svo_words.specs.Choices.{Choice}
-use Rattle.svo_words.specs.Numbers.{◌>>=◌}
+use Rattle.text_words.specs.Numbers.{◌>>=◌}
 use Rattle.svo_words.specs.Tables.{required}
 use Rattle.svo_words.specs.Lookups.{Lookup}
 use Rattle.svo_words.specs.Values.{numbers_in}

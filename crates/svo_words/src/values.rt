@@ -6,8 +6,9 @@ ghost use Rattle.svo_words.specs.Seen.{values_of};
 ghost use Rattle.svo_words.specs.Values.{is_set, number_in, number_or, numbers_in, text_in, text_or, axis_in, kind_in};
 
 use crate::kinds::{AxisWord, KindWord, axis_of, kind_of, text_of};
-use crate::numbers::{number, numbers};
+use crate::numbers::numbers;
 use clap::ArgMatches;
+use text_words::number;
 
 /// The values of a command's options, each by its name.
 #[derive(Drop)]

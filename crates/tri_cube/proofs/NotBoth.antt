@@ -9,7 +9,7 @@ use Rattle.octree_specs.specs.Vectors.{vector, dot_of}
 use Rattle.octree_specs.proofs.Integers.{product_at_most, factor_at_most, *ℤ--ℤ}
 use Rattle.octree_specs.proofs.SignedTerms.{the, plus, times, same}
 use Rattle.tri_cube.specs.Edges.{corner}
-use Rattle.tri_cube.specs.Extents.{Span, span}
+use Rattle.tri_cube.specs.Extents.{ExtentShape, between}
 use Rattle.tri_cube.specs.Lines.{least_of}
 use Rattle.tri_cube.proofs.Directions.{IsIn, IsBefore}
 use Rattle.tri_cube.proofs.DirectionKinds.{IsBox}
@@ -26,21 +26,21 @@ highest cube = vector (high_of cube 0) (high_of cube 1) (high_of cube 2)
 abbrev times_of : ℤ → Vector → Vector
 times_of w v = vector (w *ℤ v.x) (w *ℤ v.y) (w *ℤ v.z)
 
-least_times : (n w : ℤ) (s : Span) → least_of n (span (w *ℤ s.low) (w *ℤ s.high)) ≡ w *ℤ least_of n s
+least_times : (n w : ℤ) (s : ExtentShape) → least_of n (between (w *ℤ s.low) (w *ℤ s.high)) ≡ w *ℤ least_of n s
 least_times n w s =
     by_lt_z n (pos 0)
-    (λ below. rw (least_below n (span (w *ℤ s.low) (w *ℤ s.high)) below, least_below n s below) (swapped n s.high))
-    (λ over. rw (least_above n (span (w *ℤ s.low) (w *ℤ s.high)) over, least_above n s over) (swapped n s.low))
+    (λ below. rw (least_below n (between (w *ℤ s.low) (w *ℤ s.high)) below, least_below n s below) (swapped n s.high))
+    (λ over. rw (least_above n (between (w *ℤ s.low) (w *ℤ s.high)) over, least_above n s over) (swapped n s.low))
   where
     swapped : (a b : ℤ) → a *ℤ (w *ℤ b) ≡ w *ℤ (a *ℤ b)
     swapped a b = same (times (the a) (times (the w) (the b))) (times (the w) (times (the a) (the b))) (omega arith)
 
 least_in-times : (n lo hi : Vector) (w : ℤ) → least_in n (times_of w lo) (times_of w hi) ≡ w *ℤ least_in n lo hi
 least_in-times n lo hi w =
-    rw (least_times n.x w (span lo.x hi.x), least_times n.y w (span lo.y hi.y), least_times n.z w (span lo.z hi.z))
+    rw (least_times n.x w (between lo.x hi.x), least_times n.y w (between lo.y hi.y), least_times n.z w (between lo.z hi.z))
     (same
-    (plus (plus (times (the w) (the (least_of n.x (span lo.x hi.x)))) (times (the w) (the (least_of n.y (span lo.y hi.y))))) (times (the w) (the (least_of n.z (span lo.z hi.z)))))
-    (times (the w) (plus (plus (the (least_of n.x (span lo.x hi.x))) (the (least_of n.y (span lo.y hi.y)))) (the (least_of n.z (span lo.z hi.z)))))
+    (plus (plus (times (the w) (the (least_of n.x (between lo.x hi.x)))) (times (the w) (the (least_of n.y (between lo.y hi.y))))) (times (the w) (the (least_of n.z (between lo.z hi.z)))))
+    (times (the w) (plus (plus (the (least_of n.x (between lo.x hi.x))) (the (least_of n.y (between lo.y hi.y)))) (the (least_of n.z (between lo.z hi.z)))))
     (omega arith))
 
 -- ---- the weighted point

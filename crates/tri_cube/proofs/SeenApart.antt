@@ -14,7 +14,7 @@ use Rattle.octree_specs.proofs.Candidates.{candidate_from_weights}
 use Rattle.octree_specs.proofs.Meetings.{good_candidates_meet}
 use Rattle.tri_cube.specs.Boxes.{extents_miss}
 use Rattle.tri_cube.specs.Edges.{corner}
-use Rattle.tri_cube.specs.Extents.{span, span_of, spans_miss}
+use Rattle.tri_cube.specs.Extents.{between, extent_of, shapes_miss}
 use Rattle.tri_cube.specs.Planes.{misses_plane, is_above, is_below}
 use Rattle.tri_cube.specs.Views.{are_seen_apart, box_of, cube_box, plane_of, misses_edges, outline_x, outline_y, outline_z}
 use Rattle.tri_cube.proofs.Farkas.{Cleared}
@@ -29,7 +29,7 @@ use Rattle.tri_cube.proofs.SeenSides.{misses_seen, misses_by_sides}
 -- one of the tests sees the triangle and the box apart
 abbrev pub seen_apart : (lo hi a b c : Vector) → Bool
 seen_apart lo hi a b c =
-    (spans_miss (span_of a.x b.x c.x) (span lo.x hi.x) || spans_miss (span_of a.y b.y c.y) (span lo.y hi.y) || spans_miss (span_of a.z b.z c.z) (span lo.z hi.z))
+    (shapes_miss (extent_of a.x b.x c.x) (between lo.x hi.x) || shapes_miss (extent_of a.y b.y c.y) (between lo.y hi.y) || shapes_miss (extent_of a.z b.z c.z) (between lo.z hi.z))
     || (is_beside lo hi a b c || (misses_seen lo hi a b c || misses_seen (turned lo) (turned hi) (turned a) (turned b) (turned c)
     || misses_seen (turned (turned lo)) (turned (turned hi)) (turned (turned a)) (turned (turned b)) (turned (turned c))))
 

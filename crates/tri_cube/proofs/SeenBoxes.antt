@@ -10,7 +10,7 @@ use Rattle.octree_specs.specs.Vectors.{dot_of, cross_of, opposite_of}
 use Rattle.octree_specs.proofs.Integers.{product_at_most, neg_ℤ-*ℤ}
 use Rattle.octree_specs.proofs.SignedTerms.{the, minus, times, same}
 use Rattle.octree_specs.proofs.Vectors.{IsZero, IsNonzero, across_both, cross_of-first, cross_of-second, dot_of-opposite_of, vector_same, unit_x, unit_y, unit_z}
-use Rattle.tri_cube.specs.Extents.{Span, span, span_of, spans_miss}
+use Rattle.tri_cube.specs.Extents.{ExtentShape, between, extent_of, shapes_miss}
 use Rattle.tri_cube.proofs.Directions.{IsIn, IsBehind, IsBefore}
 use Rattle.tri_cube.proofs.DirectionKinds.{IsBox, IsAcross, minus_of, dot_of-minus_of}
 use Rattle.tri_cube.proofs.SameWay.{same_way, same_before}
@@ -18,12 +18,12 @@ use Rattle.tri_cube.proofs.LeastProducts.{least_in, greatest_in, greatest_in-is,
 
 -- ---- boxes
 
--- all three are below the span, or all are above it
-misses_below : (a b c : ℤ) (s : Span) → a <ℤ s.low → b <ℤ s.low → c <ℤ s.low → spans_miss (span_of a b c) s ≡ true
+-- all three are below the between, or all are above it
+misses_below : (a b c : ℤ) (s : ExtentShape) → a <ℤ s.low → b <ℤ s.low → c <ℤ s.low → shapes_miss (extent_of a b c) s ≡ true
 misses_below a b c s p q r =
     or_left _ _ (less_test (int_max (int_max a b) c) s.low (omega (arith, ints, clamps, p, q, r)))
 
-misses_above : (a b c : ℤ) (s : Span) → s.high <ℤ a → s.high <ℤ b → s.high <ℤ c → spans_miss (span_of a b c) s ≡ true
+misses_above : (a b c : ℤ) (s : ExtentShape) → s.high <ℤ a → s.high <ℤ b → s.high <ℤ c → shapes_miss (extent_of a b c) s ≡ true
 misses_above a b c s p q r =
     or_right _ _ (less_test s.high (int_min (int_min a b) c) (omega (arith, ints, clamps, p, q, r)))
 
@@ -37,7 +37,7 @@ record AllAbove (a b c k : ℤ) : Type 0 where
   second : k <ℤ b
   third : k <ℤ c
 
-misses_says : (a b c : ℤ) (s : Span) → spans_miss (span_of a b c) s ≡ true → AllBelow a b c s.low ⊎ AllAbove a b c s.high
+misses_says : (a b c : ℤ) (s : ExtentShape) → shapes_miss (extent_of a b c) s ≡ true → AllBelow a b c s.low ⊎ AllAbove a b c s.high
 misses_says a b c s test = elim (or_cases _ _ test) [
   | inl below ↦
       let less = test_less (int_max (int_max a b) c) s.low below in
@@ -63,8 +63,8 @@ axis_z = record { is = λ v. omega (arith, ints); is_opposite = λ v. omega (ari
 
 -- what is seen along an axis, in either direction
 pub boxes_say : (lo hi a b c n : Vector) (at : Vector → ℤ) → IsAxis n at → ((x : Vector) → IsIn lo hi x → at lo ≤ℤ at x) → ((x : Vector) → IsIn lo hi x → at x ≤ℤ at hi)
-    → spans_miss (span_of (at a) (at b) (at c)) (span (at lo) (at hi)) ≡ true → IsBefore lo hi a b c n ⊎ IsBefore lo hi a b c (opposite_of n)
-boxes_say lo hi a b c n at axis low high test = elim (misses_says (at a) (at b) (at c) (span (at lo) (at hi)) test) [
+    → shapes_miss (extent_of (at a) (at b) (at c)) (between (at lo) (at hi)) ≡ true → IsBefore lo hi a b c n ⊎ IsBefore lo hi a b c (opposite_of n)
+boxes_say lo hi a b c n at axis low high test = elim (misses_says (at a) (at b) (at c) (between (at lo) (at hi)) test) [
   | inl below ↦ inl (record { first = before a below.first; second = before b below.second; third = before c below.third })
   | inr above ↦ inr (record { first = after a above.first; second = after b above.second; third = after c above.third })
 ]
@@ -77,12 +77,12 @@ boxes_say lo hi a b c n at axis low high test = elim (misses_says (at a) (at b) 
 
 -- a direction along the axis is seen
 pub boxes_miss : (lo hi a b c m : Vector) (at : Vector → ℤ) → IsBox lo hi → IsBefore lo hi a b c m → (k : ℤ) → ((v : Vector) → dot_of m v ≡ k *ℤ at v) → (k ≡ pos 0 → ⊥)
-    → spans_miss (span_of (at a) (at b) (at c)) (span (at lo) (at hi)) ≡ true
+    → shapes_miss (extent_of (at a) (at b) (at c)) (between (at lo) (at hi)) ≡ true
 boxes_miss lo hi a b c m at is_box before k is some =
     by_lt_z (pos 0) k
-    (λ ahead. misses_below (at a) (at b) (at c) (span (at lo) (at hi)) (below ahead a (before.first.behind lo low_in)) (below ahead b (before.second.behind lo low_in)) (below ahead c (before.third.behind lo low_in)))
+    (λ ahead. misses_below (at a) (at b) (at c) (between (at lo) (at hi)) (below ahead a (before.first.behind lo low_in)) (below ahead b (before.second.behind lo low_in)) (below ahead c (before.third.behind lo low_in)))
     (λ over. by_lt_z k (pos 0)
-    (λ back. misses_above (at a) (at b) (at c) (span (at lo) (at hi)) (above back a (before.first.behind hi high_in)) (above back b (before.second.behind hi high_in)) (above back c (before.third.behind hi high_in)))
+    (λ back. misses_above (at a) (at b) (at c) (between (at lo) (at hi)) (above back a (before.first.behind hi high_in)) (above back b (before.second.behind hi high_in)) (above back c (before.third.behind hi high_in)))
     (λ under. absurd (some (omega (arith, ints, over, under)))))
   where
     low_in : IsIn lo hi lo

@@ -8,7 +8,7 @@ use Rattle.octree_specs.specs.Vectors.{vector, dot_of, cross_of, opposite_of}
 use Rattle.octree_specs.proofs.SignedTerms.{the, plus, minus, times, same}
 use Rattle.octree_specs.proofs.Vectors.{IsZero, IsNonzero, dot_of-opposite_of}
 use Rattle.tri_cube.specs.declared.outlines.Seen.{Seen}
-use Rattle.tri_cube.specs.Extents.{Span, span}
+use Rattle.tri_cube.specs.Extents.{ExtentShape, between}
 use Rattle.tri_cube.specs.Lines.{least_of, greatest_of, is_beyond, is_short}
 use Rattle.tri_cube.specs.Outlines.{line_of, area_of, outline_of, misses_outline}
 use Rattle.tri_cube.proofs.Directions.{IsBefore}
@@ -57,10 +57,10 @@ third_behind p q r =
 -- ---- the tests of one side
 
 abbrev passes : (lo hi p q : Vector) → Bool
-passes lo hi p q = is_beyond (line_of (seen p) (seen q)) (span lo.y hi.y) (span lo.z hi.z)
+passes lo hi p q = is_beyond (line_of (seen p) (seen q)) (between lo.y hi.y) (between lo.z hi.z)
 
 abbrev falls_short : (lo hi p q : Vector) → Bool
-falls_short lo hi p q = is_short (line_of (seen p) (seen q)) (span lo.y hi.y) (span lo.z hi.z)
+falls_short lo hi p q = is_short (line_of (seen p) (seen q)) (between lo.y hi.y) (between lo.z hi.z)
 
 same_test : (a b c d : ℤ) → a ≡ c → b ≡ d → int_lt a b ≡ int_lt c d
 same_test a b c d e f = rw (e, f) refl
@@ -70,22 +70,22 @@ unfolding line_of is_beyond
 passes_is lo hi p q =
     same_test _ _ (dot_of (side_of p q) p) (least_in (side_of p q) lo hi)
     (sym (no_x p.x _ _))
-    (omega (arith, ints, least_none (span lo.x hi.x)))
+    (omega (arith, ints, least_none (between lo.x hi.x)))
 
 falls_short_is : (lo hi p q : Vector) → falls_short lo hi p q ≡ int_lt (dot_of (opposite_of (side_of p q)) p) (least_in (opposite_of (side_of p q)) lo hi)
 unfolding line_of is_short
 falls_short_is lo hi p q =
     let f = q.z -ℤ p.z in
     let s = p.y -ℤ q.y in
-    let least = least_of (neg_ℤ f) (span lo.y hi.y) +ℤ least_of (neg_ℤ s) (span lo.z hi.z) in
+    let least = least_of (neg_ℤ f) (between lo.y hi.y) +ℤ least_of (neg_ℤ s) (between lo.z hi.z) in
     let reach = (f *ℤ p.y) +ℤ (s *ℤ p.z) in
-    same_test _ _ (neg_ℤ least) reach (greatest_sum f s (span lo.y hi.y) (span lo.z hi.z)) refl
+    same_test _ _ (neg_ℤ least) reach (greatest_sum f s (between lo.y hi.y) (between lo.z hi.z)) refl
     ∙ opposite_test least reach
     ∙ same_test (neg_ℤ reach) least (dot_of (opposite_of (side_of p q)) p) (least_in (opposite_of (side_of p q)) lo hi)
     (omega (arith, ints, dot_of-opposite_of (side_of p q) p))
-    (omega (arith, ints, least_none (span lo.x hi.x)))
+    (omega (arith, ints, least_none (between lo.x hi.x)))
   where
-    greatest_sum : (f s : ℤ) (a b : Span) → (greatest_of f a +ℤ greatest_of s b) ≡ neg_ℤ (least_of (neg_ℤ f) a +ℤ least_of (neg_ℤ s) b)
+    greatest_sum : (f s : ℤ) (a b : ExtentShape) → (greatest_of f a +ℤ greatest_of s b) ≡ neg_ℤ (least_of (neg_ℤ f) a +ℤ least_of (neg_ℤ s) b)
     greatest_sum f s a b = omega (arith, ints, greatest_is f a, greatest_is s b)
 
     opposite_test : (a b : ℤ) → int_lt (neg_ℤ a) b ≡ int_lt (neg_ℤ b) a
@@ -157,7 +157,7 @@ passed_by lo hi p q r m is_box before some is = elim (same_way m (side_of p q) s
 -- ---- the three sides
 
 abbrev pub misses_seen : (lo hi a b c : Vector) → Bool
-misses_seen lo hi a b c = misses_outline (outline_of (seen a) (seen b) (seen c)) (span lo.y hi.y) (span lo.z hi.z)
+misses_seen lo hi a b c = misses_outline (outline_of (seen a) (seen b) (seen c)) (between lo.y hi.y) (between lo.z hi.z)
 
 next_area : (a b c : Vector) → area b c a ≡ area a b c
 next_area a b c =

@@ -14,7 +14,7 @@ use Rattle.tri_cube.specs.Axes.{axis_at}
 use Rattle.tri_cube.specs.Boxes.{extents_in_order}
 use Rattle.tri_cube.specs.Edges.{corner}
 use Rattle.tri_cube.specs.Views.{are_seen_apart, cube_box}
-use Rattle.tri_cube.specs.Extents.{span, span_of, spans_miss}
+use Rattle.tri_cube.specs.Extents.{between, extent_of, shapes_miss}
 use Rattle.tri_cube.proofs.Directions.{IsBefore}
 use Rattle.tri_cube.proofs.DirectionKinds.{IsBox, turned}
 use Rattle.tri_cube.proofs.NotBoth.{lowest, highest, box_met, not_both}
@@ -120,11 +120,11 @@ module _ (t : Triangle) (cube : Cube) where
   sides_z (by_third before) = from_z 12 (corner t.c) (corner t.a) (lit< tt) refl before
 
   -- the boxes and the plane
-  boxes_axis : (spans_miss (span_of t.a.x t.b.x t.c.x) (span (low_of cube 0) (high_of cube 0)) || spans_miss (span_of t.a.y t.b.y t.c.y) (span (low_of cube 1) (high_of cube 1)) || spans_miss (span_of t.a.z t.b.z t.c.z) (span (low_of cube 2) (high_of cube 2))) ≡ true → HasAxis t cube
+  boxes_axis : (shapes_miss (extent_of t.a.x t.b.x t.c.x) (between (low_of cube 0) (high_of cube 0)) || shapes_miss (extent_of t.a.y t.b.y t.c.y) (between (low_of cube 1) (high_of cube 1)) || shapes_miss (extent_of t.a.z t.b.z t.c.z) (between (low_of cube 2) (high_of cube 2))) ≡ true → HasAxis t cube
   unfolding axis_at axis_case_list
   boxes_axis test =
-      elim (or_cases (spans_miss (span_of t.a.x t.b.x t.c.x) (span (low_of cube 0) (high_of cube 0)) || spans_miss (span_of t.a.y t.b.y t.c.y) (span (low_of cube 1) (high_of cube 1))) _ test) [
-        | inl first ↦ elim (or_cases (spans_miss (span_of t.a.x t.b.x t.c.x) (span (low_of cube 0) (high_of cube 0))) _ first) [
+      elim (or_cases (shapes_miss (extent_of t.a.x t.b.x t.c.x) (between (low_of cube 0) (high_of cube 0)) || shapes_miss (extent_of t.a.y t.b.y t.c.y) (between (low_of cube 1) (high_of cube 1))) _ test) [
+        | inl first ↦ elim (or_cases (shapes_miss (extent_of t.a.x t.b.x t.c.x) (between (low_of cube 0) (high_of cube 0))) _ first) [
           | inl x ↦ by_number t cube 0 unit_x (lit< tt) refl (boxes_say (lowest cube) (highest cube) (corner t.a) (corner t.b) (corner t.c) unit_x (λ v. v.x) axis_x (λ x in_box. in_box.low_x) (λ x in_box. in_box.high_x) x)
           | inr y ↦ by_number t cube 1 unit_y (lit< tt) refl (boxes_say (lowest cube) (highest cube) (corner t.a) (corner t.b) (corner t.c) unit_y (λ v. v.y) axis_y (λ x in_box. in_box.low_y) (λ x in_box. in_box.high_y) y)
         ]
@@ -148,7 +148,7 @@ axis_seen t cube test =
     let one : Bool = misses_seen lo hi a b c in
     let two : Bool = misses_seen (turned lo) (turned hi) (turned a) (turned b) (turned c) in
     let three : Bool = misses_seen (turned (turned lo)) (turned (turned hi)) (turned (turned a)) (turned (turned b)) (turned (turned c)) in
-    elim (or_cases (spans_miss (span_of a.x b.x c.x) (span lo.x hi.x) || spans_miss (span_of a.y b.y c.y) (span lo.y hi.y) || spans_miss (span_of a.z b.z c.z) (span lo.z hi.z)) (is_beside lo hi a b c || (one || two || three)) (sym (seen_apart_is t cube) ∙ test)) [
+    elim (or_cases (shapes_miss (extent_of a.x b.x c.x) (between lo.x hi.x) || shapes_miss (extent_of a.y b.y c.y) (between lo.y hi.y) || shapes_miss (extent_of a.z b.z c.z) (between lo.z hi.z)) (is_beside lo hi a b c || (one || two || three)) (sym (seen_apart_is t cube) ∙ test)) [
       | inl boxes ↦ boxes_axis t cube boxes
       | inr later ↦ elim (or_cases (is_beside lo hi a b c) (one || two || three) later) [
         | inl plane ↦ plane_axis t cube plane

@@ -5,26 +5,26 @@ use Rattle.svo_base.specs.declared.shapes.Cube.{Cube}
 use Rattle.octree_specs.specs.Meeting.{low_of, high_of}
 
 -- from a lower to an upper coordinate
-pub record Span : Type 0 where
+pub record ExtentShape : Type 0 where
   pub low : ℤ
   pub high : ℤ
 
-abbrev pub span : ℤ → ℤ → Span
-span low high = record { low = low; high = high }
+abbrev pub between : ℤ → ℤ → ExtentShape
+between low high = record { low = low; high = high }
 
 -- both coordinates have at most this size
-pub record SpanWithin (size : ℕ) (s : Span) : Type 0 where
+pub record ExtentWithin (size : ℕ) (s : ExtentShape) : Type 0 where
   pub low : unsigned_abs s.low ≤ size
   pub high : unsigned_abs s.high ≤ size
 
 -- from the least of three coordinates to the greatest
-abbrev pub span_of : ℤ → ℤ → ℤ → Span
-span_of a b c = span (int_min (int_min a b) c) (int_max (int_max a b) c)
+abbrev pub extent_of : ℤ → ℤ → ℤ → ExtentShape
+extent_of a b c = between (int_min (int_min a b) c) (int_max (int_max a b) c)
 
 -- the planes of a cube that are across an axis
-abbrev pub cube_span : Cube → ℕ → Span
-cube_span cube axis = span (low_of cube axis) (high_of cube axis)
+abbrev pub cube_extent : Cube → ℕ → ExtentShape
+cube_extent cube axis = between (low_of cube axis) (high_of cube axis)
 
 -- one of the two ends before the other begins
-abbrev pub spans_miss : Span → Span → Bool
-spans_miss s t = int_lt s.high t.low || int_lt t.high s.low
+abbrev pub shapes_miss : ExtentShape → ExtentShape → Bool
+shapes_miss s t = int_lt s.high t.low || int_lt t.high s.low

@@ -3,7 +3,7 @@ use Rattle.std.specs.Prelude.{ℤ, pos, ◌+ℤ◌, ◌-ℤ◌, ◌*ℤ◌, int_
 use Rattle.std.specs.List.{list_any}
 use Rattle.tri_cube.specs.declared.outlines.Seen.{Seen}
 use Rattle.tri_cube.specs.declared.outlines.Outline.{Outline}
-use Rattle.tri_cube.specs.Extents.{Span}
+use Rattle.tri_cube.specs.Extents.{ExtentShape}
 use Rattle.tri_cube.specs.Lines.{Line, line, is_beyond, is_short}
 
 -- the line through two corners
@@ -24,6 +24,6 @@ outline_of p q r =
     record { is_forward = int_le (pos 0) area; is_backward = int_le area (pos 0); sides = line_of p q ∷ line_of q r ∷ line_of r p ∷ [] }
 
 -- a box is on the outer side of a line of the outline
-unfoldable pub misses_outline : Outline → Span → Span → Bool
+unfoldable pub misses_outline : Outline → ExtentShape → ExtentShape → Bool
 misses_outline o first second =
     (o.is_forward && list_any (λ side. is_beyond side first second) o.sides) || (o.is_backward && list_any (λ side. is_short side first second) o.sides)

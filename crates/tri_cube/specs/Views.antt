@@ -9,16 +9,16 @@ use Rattle.tri_cube.specs.declared.outlines.Seen.{Seen}
 use Rattle.tri_cube.specs.declared.outlines.Outline.{Outline}
 use Rattle.tri_cube.specs.Boxes.{extents_miss}
 use Rattle.tri_cube.specs.Edges.{corner, edge_of}
-use Rattle.tri_cube.specs.Extents.{span_of, cube_span}
+use Rattle.tri_cube.specs.Extents.{extent_of, cube_extent}
 use Rattle.tri_cube.specs.Outlines.{outline_of, misses_outline}
 use Rattle.tri_cube.specs.Planes.{PlaneForm, plane_form, misses_plane}
 
 -- the box of a triangle, and a cube as a box
 unfoldable pub box_of : Triangle → Extents
-box_of t = record { x = span_of t.a.x t.b.x t.c.x; y = span_of t.a.y t.b.y t.c.y; z = span_of t.a.z t.b.z t.c.z }
+box_of t = record { x = extent_of t.a.x t.b.x t.c.x; y = extent_of t.a.y t.b.y t.c.y; z = extent_of t.a.z t.b.z t.c.z }
 
 unfoldable pub cube_box : Cube → Extents
-cube_box cube = record { x = cube_span cube 0; y = cube_span cube 1; z = cube_span cube 2 }
+cube_box cube = record { x = cube_extent cube 0; y = cube_extent cube 1; z = cube_extent cube 2 }
 
 -- the plane through the corners
 unfoldable pub plane_of : Triangle → PlaneForm

@@ -3,7 +3,7 @@
 ghost use Rattle.std.specs.Prelude.{◌≡◌, ◌^◌, ◌≤◌, unsigned_abs, int_le};
 ghost use Rattle.octree_specs.specs.Meeting.{HasPlanes};
 ghost use Rattle.tri_cube.specs.Boxes.{extents_miss, extents_in_order};
-ghost use Rattle.tri_cube.specs.Extents.{SpanWithin, span, span_of, spans_miss};
+ghost use Rattle.tri_cube.specs.Extents.{ExtentWithin, between, extent_of, shapes_miss};
 ghost use Rattle.tri_cube.specs.Views.{box_of, cube_box};
 
 use std::marker::Model;
@@ -12,38 +12,38 @@ use svo_base::{Cube, Triangle};
 /// From a lower to an upper coordinate, both of a size of at most 2^33. The lower one may be above
 /// the upper one, and then nothing lies between.
 #[derive(Clone, Copy)]
-pub struct Extent {
+pub struct WideExtent {
     lo: i64,
     hi: i64,
 }
 
-impl Model for Extent {
+impl Model for WideExtent {
     ghost use Rattle.std.specs.Prelude.{◌^◌};
-    ghost use Rattle.tri_cube.specs.Extents.{Span, SpanWithin, span};
+    ghost use Rattle.tri_cube.specs.Extents.{ExtentShape, ExtentWithin, between};
 
-    ghost Value = { Span };
+    ghost Value = { ExtentShape };
 
-    ghost view = { λ e. span e.lo e.hi };
+    ghost view = { λ e. between e.lo e.hi };
 
-    ghost invariant = { λ e. SpanWithin (2 ^ 33) (span e.lo e.hi) };
+    ghost invariant = { λ e. ExtentWithin (2 ^ 33) (between e.lo e.hi) };
 
     ghost inverse = { λ s. record { lo = s.low; hi = s.high } };
 }
 
-impl Extent {
+impl WideExtent {
     /// From a lower to an upper coordinate.
-    pub fn new(lo: i64, hi: i64) -> Extent
-        requires { SpanWithin (2 ^ 33) (span lo hi) }
-        ensures { result ≡ span lo hi }
+    pub fn new(lo: i64, hi: i64) -> WideExtent
+        requires { ExtentWithin (2 ^ 33) (between lo hi) }
+        ensures { result ≡ between lo hi }
     {
-        Extent { lo, hi }
+        WideExtent { lo, hi }
     }
 
     /// From the least of three coordinates to the greatest.
-    pub fn around(a: i32, b: i32, c: i32) -> Extent
-        ensures { result ≡ span_of a b c }
+    pub fn around(a: i32, b: i32, c: i32) -> WideExtent
+        ensures { result ≡ extent_of a b c }
     {
-        Extent::new(i64::from(a.min(b).min(c)), i64::from(a.max(b).max(c)))
+        WideExtent::new(i64::from(a.min(b).min(c)), i64::from(a.max(b).max(c)))
     }
 
     /// The lower coordinate.
@@ -63,8 +63,8 @@ impl Extent {
     }
 
     /// Whether one of two extents ends before the other begins.
-    pub fn misses(&self, other: &Extent) -> bool
-        ensures { result ≡ spans_miss self.now other.now }
+    pub fn misses(&self, other: &WideExtent) -> bool
+        ensures { result ≡ shapes_miss self.now other.now }
     {
         self.hi() < other.lo() || other.hi() < self.lo()
     }
@@ -80,9 +80,9 @@ impl Extent {
 /// An extent along each axis.
 #[derive(Clone, Copy)]
 pub struct Extents {
-    pub x: Extent,
-    pub y: Extent,
-    pub z: Extent,
+    pub x: WideExtent,
+    pub y: WideExtent,
+    pub z: WideExtent,
 }
 
 impl Extents {
@@ -93,9 +93,9 @@ impl Extents {
         ensures { result ≡ cube_box cube.now }
     {
         Extents {
-            x: Extent::new(cube.lo[0], cube.hi[0]),
-            y: Extent::new(cube.lo[1], cube.hi[1]),
-            z: Extent::new(cube.lo[2], cube.hi[2]),
+            x: WideExtent::new(cube.lo[0], cube.hi[0]),
+            y: WideExtent::new(cube.lo[1], cube.hi[1]),
+            z: WideExtent::new(cube.lo[2], cube.hi[2]),
         }
     }
 
@@ -106,9 +106,9 @@ impl Extents {
     {
         let Triangle { a, b, c } = triangle;
         Extents {
-            x: Extent::around(a.x, b.x, c.x),
-            y: Extent::around(a.y, b.y, c.y),
-            z: Extent::around(a.z, b.z, c.z),
+            x: WideExtent::around(a.x, b.x, c.x),
+            y: WideExtent::around(a.y, b.y, c.y),
+            z: WideExtent::around(a.z, b.z, c.z),
         }
     }
 

@@ -6,7 +6,7 @@ ghost use Rattle.std.specs.List.{list_any};
 ghost use Rattle.tri_cube.specs.Lines.{least_of, greatest_of, is_beyond, is_short};
 ghost use Rattle.tri_cube.specs.Outlines.{area_of, line_of, misses_outline, outline_of};
 
-use crate::extents::Extent;
+use crate::extents::WideExtent;
 use crate::products::{step, wide_product};
 use std::marker::Model;
 
@@ -54,7 +54,7 @@ impl Side {
 
     /// Whether all of a box is farther than the side.
     #[tactic(auto, unfolding(crate::specs::Lines::is_beyond))]
-    fn is_passed(&self, first: &Extent, second: &Extent) -> bool
+    fn is_passed(&self, first: &WideExtent, second: &WideExtent) -> bool
         ensures { result ≡ is_beyond self.now first.now second.now }
     {
         least(self.first, first) + least(self.second, second) > self.reach
@@ -62,7 +62,7 @@ impl Side {
 
     /// Whether no part of a box is as far as the side.
     #[tactic(auto, unfolding(crate::specs::Lines::is_short))]
-    fn is_not_reached(&self, first: &Extent, second: &Extent) -> bool
+    fn is_not_reached(&self, first: &WideExtent, second: &WideExtent) -> bool
         ensures { result ≡ is_short self.now first.now second.now }
     {
         greatest(self.first, first) + greatest(self.second, second) < self.reach
@@ -81,7 +81,7 @@ fn reach(first: i64, second: i64, at: &Seen) -> i128
 
 /// The least product of a step with a coordinate of an extent.
 #[tactic(auto, unfolding(crate::specs::Lines::least_of))]
-fn least(step: i64, extent: &Extent) -> i128
+fn least(step: i64, extent: &WideExtent) -> i128
     requires { unsigned_abs step ≤ 2 ^ 33 }
     ensures value { result ≡ least_of step extent.now }
     ensures within { unsigned_abs result ≤ 2 ^ 68 }
@@ -91,7 +91,7 @@ fn least(step: i64, extent: &Extent) -> i128
 
 /// The greatest product of a step with a coordinate of an extent.
 #[tactic(auto, unfolding(crate::specs::Lines::greatest_of))]
-fn greatest(step: i64, extent: &Extent) -> i128
+fn greatest(step: i64, extent: &WideExtent) -> i128
     requires { unsigned_abs step ≤ 2 ^ 33 }
     ensures value { result ≡ greatest_of step extent.now }
     ensures within { unsigned_abs result ≤ 2 ^ 68 }
@@ -125,19 +125,19 @@ impl Outline {
 
     /// Whether a box that is seen along the axis is on the outer side of one of the sides.
     #[tactic(auto, unfolding(crate::specs::Outlines::misses_outline))]
-    pub fn misses(&self, first: &Extent, second: &Extent) -> bool
+    pub fn misses(&self, first: &WideExtent, second: &WideExtent) -> bool
         ensures { result ≡ misses_outline self.now first.now second.now }
     {
         self.is_passed(first, second) || self.is_not_reached(first, second)
     }
 
-    fn is_passed(&self, first: &Extent, second: &Extent) -> bool
+    fn is_passed(&self, first: &WideExtent, second: &WideExtent) -> bool
         ensures { result ≡ (self.now.is_forward && list_any (λ side. is_beyond side first.now second.now) self.now.sides) }
     {
         self.is_forward && passes_any(&self.sides, first, second)
     }
 
-    fn is_not_reached(&self, first: &Extent, second: &Extent) -> bool
+    fn is_not_reached(&self, first: &WideExtent, second: &WideExtent) -> bool
         ensures { result ≡ (self.now.is_backward && list_any (λ side. is_short side first.now second.now) self.now.sides) }
     {
         self.is_backward && falls_short_of_any(&self.sides, first, second)
@@ -145,14 +145,14 @@ impl Outline {
 }
 
 /// Whether a box is beyond one of the sides.
-fn passes_any(sides: &[Side; 3], first: &Extent, second: &Extent) -> bool
+fn passes_any(sides: &[Side; 3], first: &WideExtent, second: &WideExtent) -> bool
     ensures { result ≡ list_any (λ side. is_beyond side first.now second.now) sides.now }
 {
     sides.iter().any(|side| side.is_passed(first, second))
 }
 
 /// Whether a box is short of one of the sides.
-fn falls_short_of_any(sides: &[Side; 3], first: &Extent, second: &Extent) -> bool
+fn falls_short_of_any(sides: &[Side; 3], first: &WideExtent, second: &WideExtent) -> bool
     ensures { result ≡ list_any (λ side. is_short side first.now second.now) sides.now }
 {
     sides.iter().any(|side| side.is_not_reached(first, second))

@@ -6,7 +6,7 @@ ghost use Rattle.tri_cube.specs.Edges.{corner, edge_of};
 ghost use Rattle.tri_cube.specs.Lines.{greatest_of, least_of};
 ghost use Rattle.tri_cube.specs.Planes.{is_above, is_below, misses_plane, plane_form};
 
-use crate::extents::{Extent, Extents};
+use crate::extents::{Extents, WideExtent};
 use crate::narrow::NarrowVector;
 use crate::products::{cross, dot, scaled, step};
 use std::marker::Model;
@@ -119,7 +119,7 @@ fn least_xy(direction: &Vector, extents: &Extents) -> i128
 }
 
 #[tactic(auto, unfolding(crate::specs::Lines::least_of))]
-fn least_along(step: i128, extent: &Extent) -> i128
+fn least_along(step: i128, extent: &WideExtent) -> i128
     requires { unsigned_abs step ≤ 2 ^ 69 }
     ensures value { result ≡ least_of step extent.now }
     ensures within { unsigned_abs result ≤ 2 ^ 103 }
@@ -144,7 +144,7 @@ fn greatest_xy(direction: &Vector, extents: &Extents) -> i128
 }
 
 #[tactic(auto, unfolding(crate::specs::Lines::greatest_of))]
-fn greatest_along(step: i128, extent: &Extent) -> i128
+fn greatest_along(step: i128, extent: &WideExtent) -> i128
     requires { unsigned_abs step ≤ 2 ^ 69 }
     ensures value { result ≡ greatest_of step extent.now }
     ensures within { unsigned_abs result ≤ 2 ^ 103 }

@@ -18,11 +18,12 @@ use Rattle.octree_specs.specs.Parcels.{HoldAlike}
 use Rattle.octree_specs.specs.Parts.{reaches, box_meets, is_in_part}
 use Rattle.morton_code.proofs.Coordinates.{x_of_code, y_of_code, z_of_code}
 use Rattle.room_plan.specs.declared.elements.Parcel.{Parcel}
-use Rattle.tri_partition.specs.declared.spans.Bounds.{Bounds}
-use Rattle.tri_partition.specs.declared.spans.Span.{Span}
+use Rattle.svo_base.specs.declared.boxes.Bounds.{Bounds}
+use Rattle.tri_partition.specs.declared.part_ranges.PartRange.{PartRange}
 use Rattle.tri_partition.specs.Partitioning.{parcel_of, parcels_of}
-use Rattle.tri_partition.specs.Spans.{extent_of, bounds_of, plane_of, extent_reaches, in_span, parts_in, parcel_to, row_parcels, layer_parcels, box_parcels}
-use Rattle.tri_partition.proofs.PartSums.{total, total_same, total_cond, cube_total, cube_same, codes_once, sum_filter, sum_span}
+use Rattle.svo_base.specs.Boxes.{extent_of, bounds_of}
+use Rattle.tri_partition.specs.PartRanges.{plane_of, extent_reaches, in_range, parts_in, parcel_to, row_parcels, layer_parcels, box_parcels}
+use Rattle.tri_partition.proofs.PartSums.{total, total_same, total_cond, cube_total, cube_same, codes_once, sum_filter, sum_range}
 
 -- ---- a part that the box reaches
 
@@ -118,56 +119,56 @@ three false true false n = refl
 three false false true n = refl
 three false false false n = refl
 
-module _ (f : Parcel → ℕ) (split : ℕ) (parcel : Parcel) (xs ys zs : Span) where
-  row_sum : (z y : ℕ) → xs.to ≤ 2 ^ split → sum_by f (row_parcels split parcel xs z y) ≡ total (λ x. cond (in_span xs x) (f (parcel_to split parcel z y x)) 0) (2 ^ split)
-  row_sum z y within = sum_map f (parcel_to split parcel z y) (parts_in xs) ∙ sum_span (λ x. f (parcel_to split parcel z y x)) xs (2 ^ split) within
+module _ (f : Parcel → ℕ) (split : ℕ) (parcel : Parcel) (xs ys zs : PartRange) where
+  row_sum : (z y : ℕ) → xs.to ≤ 2 ^ split → sum_by f (row_parcels split parcel xs z y) ≡ total (λ x. cond (in_range xs x) (f (parcel_to split parcel z y x)) 0) (2 ^ split)
+  row_sum z y within = sum_map f (parcel_to split parcel z y) (parts_in xs) ∙ sum_range (λ x. f (parcel_to split parcel z y x)) xs (2 ^ split) within
 
   layer_sum : (z : ℕ) → xs.to ≤ 2 ^ split → ys.to ≤ 2 ^ split
-      → sum_by f (layer_parcels split parcel xs ys z) ≡ total (λ y. total (λ x. cond (in_span ys y) (cond (in_span xs x) (f (parcel_to split parcel z y x)) 0) 0) (2 ^ split)) (2 ^ split)
+      → sum_by f (layer_parcels split parcel xs ys z) ≡ total (λ y. total (λ x. cond (in_range ys y) (cond (in_range xs x) (f (parcel_to split parcel z y x)) 0) 0) (2 ^ split)) (2 ^ split)
   layer_sum z x_in y_in =
-      let row : ℕ → ℕ → ℕ = λ y x. cond (in_span xs x) (f (parcel_to split parcel z y x)) 0 in
+      let row : ℕ → ℕ → ℕ = λ y x. cond (in_range xs x) (f (parcel_to split parcel z y x)) 0 in
       sum_flat f (row_parcels split parcel xs z) (parts_in ys)
-      ∙ (sum_span (λ y. sum_by f (row_parcels split parcel xs z y)) ys (2 ^ split) y_in
-      ∙ total_same (λ y. cond (in_span ys y) (sum_by f (row_parcels split parcel xs z y)) 0) (λ y. total (λ x. cond (in_span ys y) (row y x) 0) (2 ^ split)) (2 ^ split)
-      (λ y within. ap (λ n. cond (in_span ys y) n 0) (row_sum z y x_in) ∙ sym (total_cond (in_span ys y) (row y) (2 ^ split))))
+      ∙ (sum_range (λ y. sum_by f (row_parcels split parcel xs z y)) ys (2 ^ split) y_in
+      ∙ total_same (λ y. cond (in_range ys y) (sum_by f (row_parcels split parcel xs z y)) 0) (λ y. total (λ x. cond (in_range ys y) (row y x) 0) (2 ^ split)) (2 ^ split)
+      (λ y within. ap (λ n. cond (in_range ys y) n 0) (row_sum z y x_in) ∙ sym (total_cond (in_range ys y) (row y) (2 ^ split))))
 
   box_sum : xs.to ≤ 2 ^ split → ys.to ≤ 2 ^ split → zs.to ≤ 2 ^ split
       → sum_by f (box_parcels split parcel xs ys zs)
-      ≡ cube_total (λ z y x. cond (in_span zs z) (cond (in_span ys y) (cond (in_span xs x) (f (parcel_to split parcel z y x)) 0) 0) 0) (2 ^ split)
+      ≡ cube_total (λ z y x. cond (in_range zs z) (cond (in_range ys y) (cond (in_range xs x) (f (parcel_to split parcel z y x)) 0) 0) 0) (2 ^ split)
   unfolding cube_total
   box_sum x_in y_in z_in =
-      let row : ℕ → ℕ → ℕ → ℕ = λ z y x. cond (in_span ys y) (cond (in_span xs x) (f (parcel_to split parcel z y x)) 0) 0 in
+      let row : ℕ → ℕ → ℕ → ℕ = λ z y x. cond (in_range ys y) (cond (in_range xs x) (f (parcel_to split parcel z y x)) 0) 0 in
       sum_flat f (layer_parcels split parcel xs ys) (parts_in zs)
-      ∙ (sum_span (λ z. sum_by f (layer_parcels split parcel xs ys z)) zs (2 ^ split) z_in
-      ∙ total_same (λ z. cond (in_span zs z) (sum_by f (layer_parcels split parcel xs ys z)) 0) (λ z. total (λ y. total (λ x. cond (in_span zs z) (row z y x) 0) (2 ^ split)) (2 ^ split)) (2 ^ split)
+      ∙ (sum_range (λ z. sum_by f (layer_parcels split parcel xs ys z)) zs (2 ^ split) z_in
+      ∙ total_same (λ z. cond (in_range zs z) (sum_by f (layer_parcels split parcel xs ys z)) 0) (λ z. total (λ y. total (λ x. cond (in_range zs z) (row z y x) 0) (2 ^ split)) (2 ^ split)) (2 ^ split)
       (λ z within.
-      ap (λ n. cond (in_span zs z) n 0) (layer_sum z x_in y_in)
-      ∙ (sym (total_cond (in_span zs z) (λ y. total (row z y) (2 ^ split)) (2 ^ split))
-      ∙ total_same (λ y. cond (in_span zs z) (total (row z y) (2 ^ split)) 0) (λ y. total (λ x. cond (in_span zs z) (row z y x) 0) (2 ^ split)) (2 ^ split)
-      (λ y inside. sym (total_cond (in_span zs z) (row z y) (2 ^ split))))))
+      ap (λ n. cond (in_range zs z) n 0) (layer_sum z x_in y_in)
+      ∙ (sym (total_cond (in_range zs z) (λ y. total (row z y) (2 ^ split)) (2 ^ split))
+      ∙ total_same (λ y. cond (in_range zs z) (total (row z y) (2 ^ split)) 0) (λ y. total (λ x. cond (in_range zs z) (row z y x) 0) (2 ^ split)) (2 ^ split)
+      (λ y inside. sym (total_cond (in_range zs z) (row z y) (2 ^ split))))))
 
 on_its_way : (split : ℕ) (t : Faced) (z y x : ℕ) → parcel_to split (parcel_of t 0) z y x ≡ parcel_of t (code_of split x y z)
 unfolding parcel_of
 on_its_way split t z y x = refl
 
-pub box_alike : (grid : GridShape) (split : ℕ) (t : Faced) (parcel : Parcel) (xs ys zs : Span) → parcel ≡ parcel_of t 0
+pub box_alike : (grid : GridShape) (split : ℕ) (t : Faced) (parcel : Parcel) (xs ys zs : PartRange) → parcel ≡ parcel_of t 0
     → xs.to ≤ 2 ^ split → ys.to ≤ 2 ^ split → zs.to ≤ 2 ^ split
-    → ((part : ℕ) → part < 2 ^ split → in_span xs part ≡ extent_reaches grid split 0 (bounds_of t.triangle).x part)
-    → ((part : ℕ) → part < 2 ^ split → in_span ys part ≡ extent_reaches grid split 1 (bounds_of t.triangle).y part)
-    → ((part : ℕ) → part < 2 ^ split → in_span zs part ≡ extent_reaches grid split 2 (bounds_of t.triangle).z part)
+    → ((part : ℕ) → part < 2 ^ split → in_range xs part ≡ extent_reaches grid split 0 (bounds_of t.triangle).x part)
+    → ((part : ℕ) → part < 2 ^ split → in_range ys part ≡ extent_reaches grid split 1 (bounds_of t.triangle).y part)
+    → ((part : ℕ) → part < 2 ^ split → in_range zs part ≡ extent_reaches grid split 2 (bounds_of t.triangle).z part)
     → HoldAlike (box_parcels split parcel xs ys zs) (parcels_of grid split t)
 unfolding parcels_of
 box_alike grid split t parcel xs ys zs is x_in y_in z_in x_reached y_reached z_reached = λ f.
     let reached : ℕ → Bool = λ part. is_in_part grid split part t in
-    let boxed : ℕ → ℕ → ℕ → ℕ = λ z y x. cond (in_span zs z) (cond (in_span ys y) (cond (in_span xs x) (f (parcel_to split parcel z y x)) 0) 0) 0 in
+    let boxed : ℕ → ℕ → ℕ → ℕ = λ z y x. cond (in_range zs z) (cond (in_range ys y) (cond (in_range xs x) (f (parcel_to split parcel z y x)) 0) 0) 0 in
     let counted : ℕ → ℕ = λ part. cond (reached part) (f (parcel_of t part)) 0 in
     box_sum f split parcel xs ys zs x_in y_in z_in
     ∙ (cube_same boxed (λ z y x. counted (code_of split x y z)) (2 ^ split) (λ z y x z_at y_at x_at.
     let same : parcel_to split parcel z y x ≡ parcel_of t (code_of split x y z) = parcel_is z y x in
-    let tests : reached (code_of split x y z) ≡ (in_span xs x && (in_span ys y && in_span zs z)) =
+    let tests : reached (code_of split x y z) ≡ (in_range xs x && (in_range ys y && in_range zs z)) =
     in_part_is grid split x y z t x_at y_at z_at ∙ rw (x_reached x x_at, y_reached y y_at, z_reached z z_at) refl in
-    ap (λ p. cond (in_span zs z) (cond (in_span ys y) (cond (in_span xs x) (f p) 0) 0) 0) same
-    ∙ (sym (three (in_span xs x) (in_span ys y) (in_span zs z) (f (parcel_of t (code_of split x y z))))
+    ap (λ p. cond (in_range zs z) (cond (in_range ys y) (cond (in_range xs x) (f p) 0) 0) 0) same
+    ∙ (sym (three (in_range xs x) (in_range ys y) (in_range zs z) (f (parcel_of t (code_of split x y z))))
     ∙ ap (λ b. cond b (f (parcel_of t (code_of split x y z))) 0) (sym tests)))
     ∙ (sym (codes_once counted split)
     ∙ (sym (sum_filter (λ part. f (parcel_of t part)) reached (8 ^ split))
@@ -177,12 +178,12 @@ box_alike grid split t parcel xs ys zs is x_in y_in z_in x_reached y_reached z_r
     parcel_is z y x = ap (λ p. parcel_to split p z y x) is ∙ on_its_way split t z y x
 
 -- the same, as code has the box and the grid
-pub all_alike : (inside_grid grid : GridShape) (inside_split split : ℕ) (bounds : Bounds) (t : Faced) (parcel : Parcel) (xs ys zs : Span)
+pub all_alike : (inside_grid grid : GridShape) (inside_split split : ℕ) (bounds : Bounds) (t : Faced) (parcel : Parcel) (xs ys zs : PartRange)
     → inside_grid ≡ grid → inside_split ≡ split → bounds ≡ bounds_of t.triangle → parcel ≡ parcel_of t 0
     → xs.to ≤ 2 ^ inside_split → ys.to ≤ 2 ^ inside_split → zs.to ≤ 2 ^ inside_split
-    → ((part : ℕ) → part < 2 ^ inside_split → in_span xs part ≡ extent_reaches inside_grid inside_split 0 bounds.x part)
-    → ((part : ℕ) → part < 2 ^ inside_split → in_span ys part ≡ extent_reaches inside_grid inside_split 1 bounds.y part)
-    → ((part : ℕ) → part < 2 ^ inside_split → in_span zs part ≡ extent_reaches inside_grid inside_split 2 bounds.z part)
+    → ((part : ℕ) → part < 2 ^ inside_split → in_range xs part ≡ extent_reaches inside_grid inside_split 0 bounds.x part)
+    → ((part : ℕ) → part < 2 ^ inside_split → in_range ys part ≡ extent_reaches inside_grid inside_split 1 bounds.y part)
+    → ((part : ℕ) → part < 2 ^ inside_split → in_range zs part ≡ extent_reaches inside_grid inside_split 2 bounds.z part)
     → HoldAlike (box_parcels split parcel xs ys zs) (parcels_of grid split t)
 all_alike inside_grid grid inside_split split bounds t parcel xs ys zs grid_is split_is bounds_is is x_in y_in z_in x_reached y_reached z_reached =
     subst (λ digits. HoldAlike (box_parcels digits parcel xs ys zs) (parcels_of grid digits t)) split_is

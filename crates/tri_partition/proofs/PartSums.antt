@@ -6,8 +6,8 @@ use Rattle.std.proofs.lemmas.List.Elements.{filter-append}
 use Rattle.std.proofs.lemmas.Bool.Decides.{leb_tells}
 use Rattle.std.proofs.lemmas.List.Sums.{sum_by-append}
 use Rattle.octree_specs.specs.NodeCube.{code_of}
-use Rattle.tri_partition.specs.declared.spans.Span.{Span}
-use Rattle.tri_partition.specs.Spans.{in_span, parts_in}
+use Rattle.tri_partition.specs.declared.part_ranges.PartRange.{PartRange}
+use Rattle.tri_partition.specs.PartRanges.{in_range, parts_in}
 use Rattle.tri_partition.proofs.SpilledRuns.{range_more}
 
 -- ---- sums over all numbers below one
@@ -185,36 +185,36 @@ sum_filter f p (suc n) =
     one false = refl
 
 -- so far as it goes below a number
-span_below : (f : ℕ → ℕ) (span : Span) (n : ℕ) → sum_by f (range_with_len span.from (min span.to n - span.from)) ≡ total (λ k. cond (in_span span k) (f k) 0) n
+range_below : (f : ℕ → ℕ) (range : PartRange) (n : ℕ) → sum_by f (range_with_len range.from (min range.to n - range.from)) ≡ total (λ k. cond (in_range range k) (f k) 0) n
 unfolding total
-span_below f span zero =
-    let none : min span.to 0 - span.from ≡ 0 = omega arith in
-    ap (λ count. sum_by f (range_with_len span.from count)) none
-span_below f span (suc n) = elim (leb_tells span.from n) [
-  | inl begun ↦ elim (leb_tells (suc n) span.to) [
+range_below f range zero =
+    let none : min range.to 0 - range.from ≡ 0 = omega arith in
+    ap (λ count. sum_by f (range_with_len range.from count)) none
+range_below f range (suc n) = elim (leb_tells range.from n) [
+  | inl begun ↦ elim (leb_tells (suc n) range.to) [
     | inl inside ↦
-        let count : min span.to (suc n) - span.from ≡ suc (min span.to n - span.from) = omega (arith, begun.1, inside.1) in
-        let last : span.from + (min span.to n - span.from) ≡ n = omega (arith, begun.1, inside.1) in
-        let before = span_below f span n in
-        let here : cond (in_span span n) (f n) 0 ≡ f n = rw (begun.0, inside.0) refl in
-        ap (λ count. sum_by f (range_with_len span.from count)) count
-        ∙ (ap (sum_by f) (range_more span.from (min span.to n - span.from))
-        ∙ (sum_by-append f (range_with_len span.from (min span.to n - span.from)) ((span.from + (min span.to n - span.from)) ∷ [])
-        ∙ (ap (λ k. sum_by f (range_with_len span.from (min span.to n - span.from)) + sum_by f (k ∷ [])) last ∙ omega (arith, before, here))))
+        let count : min range.to (suc n) - range.from ≡ suc (min range.to n - range.from) = omega (arith, begun.1, inside.1) in
+        let last : range.from + (min range.to n - range.from) ≡ n = omega (arith, begun.1, inside.1) in
+        let before = range_below f range n in
+        let here : cond (in_range range n) (f n) 0 ≡ f n = rw (begun.0, inside.0) refl in
+        ap (λ count. sum_by f (range_with_len range.from count)) count
+        ∙ (ap (sum_by f) (range_more range.from (min range.to n - range.from))
+        ∙ (sum_by-append f (range_with_len range.from (min range.to n - range.from)) ((range.from + (min range.to n - range.from)) ∷ [])
+        ∙ (ap (λ k. sum_by f (range_with_len range.from (min range.to n - range.from)) + sum_by f (k ∷ [])) last ∙ omega (arith, before, here))))
     | inr beyond ↦
-        let count : min span.to (suc n) - span.from ≡ min span.to n - span.from = omega (arith, beyond.1) in
-        let before = span_below f span n in
-        let here : cond (in_span span n) (f n) 0 ≡ 0 = rw (begun.0, beyond.0) refl in
-        ap (λ count. sum_by f (range_with_len span.from count)) count ∙ omega (arith, before, here)
+        let count : min range.to (suc n) - range.from ≡ min range.to n - range.from = omega (arith, beyond.1) in
+        let before = range_below f range n in
+        let here : cond (in_range range n) (f n) 0 ≡ 0 = rw (begun.0, beyond.0) refl in
+        ap (λ count. sum_by f (range_with_len range.from count)) count ∙ omega (arith, before, here)
   ]
   | inr early ↦
-      let count : min span.to (suc n) - span.from ≡ min span.to n - span.from = omega (arith, early.1) in
-      let before = span_below f span n in
-      let here : cond (in_span span n) (f n) 0 ≡ 0 = rw (early.0) refl in
-      ap (λ count. sum_by f (range_with_len span.from count)) count ∙ omega (arith, before, here)
+      let count : min range.to (suc n) - range.from ≡ min range.to n - range.from = omega (arith, early.1) in
+      let before = range_below f range n in
+      let here : cond (in_range range n) (f n) 0 ≡ 0 = rw (early.0) refl in
+      ap (λ count. sum_by f (range_with_len range.from count)) count ∙ omega (arith, before, here)
 ]
 
-pub sum_span : (f : ℕ → ℕ) (span : Span) (n : ℕ) → span.to ≤ n → sum_by f (parts_in span) ≡ total (λ k. cond (in_span span k) (f k) 0) n
-sum_span f span n within =
-    let all : span.to - span.from ≡ min span.to n - span.from = omega (arith, within) in
-    ap (λ count. sum_by f (range_with_len span.from count)) all ∙ span_below f span n
+pub sum_range : (f : ℕ → ℕ) (range : PartRange) (n : ℕ) → range.to ≤ n → sum_by f (parts_in range) ≡ total (λ k. cond (in_range range k) (f k) 0) n
+sum_range f range n within =
+    let all : range.to - range.from ≡ min range.to n - range.from = omega (arith, within) in
+    ap (λ count. sum_by f (range_with_len range.from count)) all ∙ range_below f range n

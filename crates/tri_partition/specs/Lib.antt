@@ -2,4 +2,4 @@ pub mod Laws
 pub mod PartStreams
 pub mod Partitioning
 pub mod Reading
-pub mod Spans
+pub mod PartRanges

@@ -2,11 +2,11 @@
 #![tactic(auto)]
 
 mod laws;
+mod part_ranges;
 mod partition;
 mod pieces;
 mod pool;
 mod reader;
-mod spans;
 
 pub use laws::{parcels_are_spilled_in_steps, parts_are_spilled, spilled_parcels_are_read_back};
 pub use partition::Partition;

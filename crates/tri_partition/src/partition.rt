@@ -4,12 +4,12 @@ ghost use Rattle.std.specs.Prelude.{◌≡◌, ◌+◌, ◌^◌, ◌<◌, ◌≤
 ghost use Rattle.dev_traits.specs.Faults.{HasCause};
 ghost use Rattle.tri_partition.specs.Partitioning.{parcel_of};
 
+use crate::part_ranges::{PartRange, part_at, reached_parts};
 use crate::pool::{put, spill};
-use crate::spans::{Bounds, Span, part_at};
 use dev_traits::{Failed, Scratch};
 use room_plan::Parcel;
 use std::marker::Model;
-use svo_base::{Grid, Triangle};
+use svo_base::{Bounds, Grid, Triangle};
 
 /// Assigns triangles to the parts of a grid: the nodes of one level, the split. The parcels of part
 /// `r` go to stream `1 + r` of a scratch, 40 bytes each, through a lent pool in which they wait. Where
@@ -38,7 +38,7 @@ impl<'a> Model for Partition<'a> {
 
 impl<'a> Partition<'a> {
     ghost use Rattle.tri_partition.specs.Partitioning.{PartitionView, Spills, parcels_of};
-    ghost use Rattle.tri_partition.specs.Spans.{row_parcels, layer_parcels};
+    ghost use Rattle.tri_partition.specs.PartRanges.{row_parcels, layer_parcels};
 
     /// A partition with no triangles. The split is at most 4 and at most the grid's depth, and the pool
     /// has room for a parcel at least.
@@ -77,10 +77,10 @@ impl<'a> Partition<'a> {
         ensures asked { S.asked scratch.new ≡ S.asked scratch.old }
         ensures cause { HasCause (S.faults scratch.old) (S.faults scratch.new) result }
     {
-        let bounds = Bounds::new(triangle);
-        let xs = bounds.x.span(&self.grid, self.split, 0);
-        let ys = bounds.y.span(&self.grid, self.split, 1);
-        let zs = bounds.z.span(&self.grid, self.split, 2);
+        let bounds = Bounds::of_triangle(triangle);
+        let xs = reached_parts(&bounds.x, &self.grid, self.split, 0);
+        let ys = reached_parts(&bounds.y, &self.grid, self.split, 1);
+        let zs = reached_parts(&bounds.z, &self.grid, self.split, 2);
         let parcel = parcel_of(triangle, face);
         for z in zs.from..zs.to {
             self.add_layer(&parcel, &xs, &ys, z, scratch)?;
@@ -92,8 +92,8 @@ impl<'a> Partition<'a> {
     fn add_layer<S: Scratch>(
         &mut self,
         parcel: &Parcel,
-        xs: &Span,
-        ys: &Span,
+        xs: &PartRange,
+        ys: &PartRange,
         z: u32,
         scratch: &mut S,
     ) -> Result<(), Failed>
@@ -118,7 +118,7 @@ impl<'a> Partition<'a> {
     fn add_row<S: Scratch>(
         &mut self,
         parcel: &Parcel,
-        xs: &Span,
+        xs: &PartRange,
         y: u32,
         z: u32,
         scratch: &mut S,

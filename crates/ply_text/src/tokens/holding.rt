@@ -6,7 +6,7 @@ ghost use Rattle.dev_traits.specs.Contents.{TakesFront};
 ghost use Rattle.dev_traits.specs.Faults.{HasCause};
 ghost use Rattle.ply_text.specs.NextPieces.{without_return};
 
-use super::{Span, Tokens};
+use super::{PieceRange, Tokens};
 use crate::fault::TextFault;
 use crate::run::{Run, front_size};
 use dev_traits::{ByteSource, Failed};
@@ -237,7 +237,7 @@ impl<I: ByteSource> Tokens<'_, I> {
     }
 
     /// Passes the next token, and answers where it lies.
-    pub(super) fn find_token(&mut self) -> Result<Option<Span>, TextFault>
+    pub(super) fn find_token(&mut self) -> Result<Option<PieceRange>, TextFault>
         ensures finds { Finds next_token_of token_size self.old self.new
             (answered (piece_in self.new.block.now) result) }
         ensures only_white { (text : List ℕ) → left_of self.old ≡ Some text
@@ -257,7 +257,7 @@ impl<I: ByteSource> Tokens<'_, I> {
         let size = self.find_run(Run::Token, TOKEN_SIZE, TextFault::TokenTooLong(place))?;
         let begin = self.from;
         self.pass(size);
-        Ok(Some(Span {
+        Ok(Some(PieceRange {
             place,
             begin,
             end: begin + size,
@@ -279,7 +279,7 @@ impl<I: ByteSource> Tokens<'_, I> {
     }
 
     /// Passes the next line with its LF, and answers where it lies.
-    pub(super) fn find_line(&mut self) -> Result<Option<Span>, TextFault>
+    pub(super) fn find_line(&mut self) -> Result<Option<PieceRange>, TextFault>
         ensures finds { Finds next_line_of line_size self.old self.new
             (answered (piece_in self.new.block.now) result) }
         ensures ended { IfOk result (λ found. IfNone found (self.new.to - self.new.from ≡ 0)) }
@@ -300,6 +300,6 @@ impl<I: ByteSource> Tokens<'_, I> {
         let begin = self.from;
         let end = self.line_end(size);
         self.pass((size + 1).min(self.to - begin));
-        Ok(Some(Span { place, begin, end }))
+        Ok(Some(PieceRange { place, begin, end }))
     }
 }

@@ -9,10 +9,9 @@ use Rattle.build_core.proofs.cells.push_cells.Given as goal
 abbrev pub invariant-loop-cell : goal.invariant-loop-cell
 invariant-loop-cell g l = record {
   pushed : (grid : GridShape) (start : Option (List ℕ)) (cells : List Cell) → HasPushed grid start (l.part * l.codes) cells l.initial.queues l.initial.writer
-      → PushesOn grid start (l.part * l.codes) l.from cells (AreSlotsOf l.slots (l.part * l.codes) l.codes grid) l.queues l.writer;
+      → PushesOn grid start (l.part * l.codes) l.from cells (AreSlotsOf l.slots (l.part * l.codes) l.codes grid) l.queues l.writer l.initial.moves l.moves;
   low : l.part * l.codes ≤ l.from;
   high : l.from ≤ (l.part + 1) * l.codes;
-  moves : l.moves + l.initial.queues.depth * l.initial.queues.cells ≤ l.initial.moves + l.initial.queues.depth * l.queues.cells;
   sink : l.writer.sink.ghost_name ≡ l.initial.writer.sink.ghost_name;
   depth : l.queues.depth ≡ l.initial.queues.depth;
   later : g.O.ByteSink.faults l.initial.writer.sink.now ≤ g.O.ByteSink.faults l.writer.sink.now;

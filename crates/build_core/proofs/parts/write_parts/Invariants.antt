@@ -11,8 +11,7 @@ use Rattle.build_core.proofs.parts.write_parts.Given as goal
 abbrev pub invariant-loop-part : goal.invariant-loop-part
 invariant-loop-part g l = record {
   pushed : (start : Option (List ℕ)) → HasPushed l.grid start 0 [] l.initial.queues l.initial.writer
-      → PushesOn l.grid start 0 (first_of_part l.grid l.split l.part) [] (HasPartsOf l.grid l.split (g.S.Scratch.told l.initial.scratch)) l.queues l.writer;
-  moves : l.moves + l.grid.depth * l.initial.queues.cells ≤ l.initial.moves + l.grid.depth * l.queues.cells;
+      → PushesOn l.grid start 0 (first_of_part l.grid l.split l.part) [] (HasPartsOf l.grid l.split (g.S.Scratch.told l.initial.scratch)) l.queues l.writer l.initial.moves l.moves;
   tests : (test : Faced → ℕ → ℕ → Bool) → TestEachParcel l.grid test → (faced : List Faced) → HasPartsOf l.grid l.split (g.S.Scratch.told l.initial.scratch) faced
       → l.tests ≤ l.initial.tests + tests_of_parts l.grid l.split l.part test faced;
   empty : (place : ℕ) → slice_index l.slots place ≡ 0;

@@ -16,7 +16,7 @@ returns-in_err-point-clause-spools g c =
     let fault = c.in_err-point.field-0.0 in
     let call : MeshCall give_vertex a b (Err fault) = call_given give_vertex a b c.next_vertex.result (Err fault) c.in_err-point.was c.next_vertex.ensures.call in
     stop_answer (SpoolsPoints old b (g.S.Scratch.told c.args.scratch.now) (g.S.Scratch.told c.loop-point.scratch) c.loop-point.spool) old b c.from_residual.result (Text fault) c.from_residual.ensures
-    (text_stops old a b (g.S.Scratch.told c.args.scratch.now) (with_waiting (g.S.Scratch.told c.loop-point.scratch) c.loop-point.spool.waiting) c.loop-point.spool c.loop-point.span fault c.loop-point.invariant.spools call)
+    (text_stops old a b (g.S.Scratch.told c.args.scratch.now) (with_waiting (g.S.Scratch.told c.loop-point.scratch) c.loop-point.spool.waiting) c.loop-point.spool c.loop-point.bounds fault c.loop-point.invariant.spools call)
 
 pub returns-in_err-put-clause-spools : goal.returns-in_err-put-clause-spools
 returns-in_err-put-clause-spools g c =
@@ -25,7 +25,7 @@ returns-in_err-put-clause-spools g c =
     let b = mesh_reading c.next_vertex.new.tokens c.next_vertex.new.self in
     let call : MeshCall give_vertex a b (Ok c.in_ok-point.field-0) = call_given give_vertex a b c.next_vertex.result (Ok c.in_ok-point.field-0) c.in_ok-point.was c.next_vertex.ensures.call in
     stop_answer (SpoolsPoints old b (g.S.Scratch.told c.args.scratch.now) (g.S.Scratch.told c.put.new.scratch) c.put.new.self) old b c.from_residual-in_err-put.result Scratch c.from_residual-in_err-put.ensures
-    (scratch_stops old a b (g.S.Scratch.told c.args.scratch.now) (with_waiting (g.S.Scratch.told c.loop-point.scratch) c.loop-point.spool.waiting) c.loop-point.spool c.loop-point.span c.in_ok-point.field-0 c.loop-point.invariant.spools call)
+    (scratch_stops old a b (g.S.Scratch.told c.args.scratch.now) (with_waiting (g.S.Scratch.told c.loop-point.scratch) c.loop-point.spool.waiting) c.loop-point.spool c.loop-point.bounds c.in_ok-point.field-0 c.loop-point.invariant.spools call)
 
 pub loop-point-preserved : goal.loop-point-preserved
 loop-point-preserved g c =
@@ -40,7 +40,7 @@ loop-point-preserved g c =
       same = search rules;
       ready = c.next_vertex.ensures.ready;
       spools = point_spooled old a b (g.S.Scratch.told c.args.scratch.now) (with_waiting (g.S.Scratch.told c.loop-point.scratch) c.loop-point.spool.waiting)
-          (with_waiting (g.S.Scratch.told c.put.new.scratch) c.put.new.self.waiting) c.loop-point.spool c.put.new.self c.loop-point.span c.add.new.self point
+          (with_waiting (g.S.Scratch.told c.put.new.scratch) c.put.new.self.waiting) c.loop-point.spool c.put.new.self c.loop-point.bounds c.add.new.self point
           c.loop-point.invariant.spools call counts.1 c.in_ok-put.ensures.put c.in_ok-put.ensures.count c.add.ensures;
       left = omega (arith, c.loop-point.invariant.left, counts.0, c.in_ok-put.ensures.count);
       unclosed = c.in_ok-put.ensures.unclosed;
@@ -60,7 +60,7 @@ returns-in_err-close-clause-spools g c =
     let b = mesh_reading c.next_vertex.new.tokens c.next_vertex.new.self in
     let call : MeshCall give_vertex a b (Ok c.in_ok-point.field-0) = call_given give_vertex a b c.next_vertex.result (Ok c.in_ok-point.field-0) c.in_ok-point.was c.next_vertex.ensures.call in
     stop_answer (SpoolsPoints old b (g.S.Scratch.told c.args.scratch.now) (g.S.Scratch.told c.close.new.scratch) c.close.new.self) old b c.from_residual-in_err-close.result Scratch c.from_residual-in_err-close.ensures
-    (scratch_stops old a b (g.S.Scratch.told c.args.scratch.now) (with_waiting (g.S.Scratch.told c.loop-point.scratch) c.loop-point.spool.waiting) c.loop-point.spool c.loop-point.span c.in_ok-point.field-0 c.loop-point.invariant.spools call)
+    (scratch_stops old a b (g.S.Scratch.told c.args.scratch.now) (with_waiting (g.S.Scratch.told c.loop-point.scratch) c.loop-point.spool.waiting) c.loop-point.spool c.loop-point.bounds c.in_ok-point.field-0 c.loop-point.invariant.spools call)
 
 pub returns-clause-spools : goal.returns-clause-spools
 returns-clause-spools g c =
@@ -70,4 +70,4 @@ returns-clause-spools g c =
     let was : c.next_vertex.result ≡ Ok None = c.in_ok-point.was ∙ ap Ok (search rules) in
     let call : MeshCall give_vertex a b (Ok None) = call_given give_vertex a b c.next_vertex.result (Ok None) was c.next_vertex.ensures.call in
     points_spooled old a b (g.S.Scratch.told c.args.scratch.now) (with_waiting (g.S.Scratch.told c.loop-point.scratch) c.loop-point.spool.waiting) (g.S.Scratch.told c.close.new.scratch)
-    c.loop-point.spool c.close.new.self c.loop-point.span c.loop-point.invariant.spools call c.in_ok-close.ensures.all c.in_ok-close.ensures.count
+    c.loop-point.spool c.close.new.self c.loop-point.bounds c.loop-point.invariant.spools call c.in_ok-close.ensures.all c.in_ok-close.ensures.count

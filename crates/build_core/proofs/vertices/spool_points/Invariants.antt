@@ -11,7 +11,7 @@ abbrev pub invariant-loop-point : goal.invariant-loop-point
 invariant-loop-point g l = record {
   same : SameLent l.fn.tokens l.tokens;
   ready : IsReady (mesh_reading l.tokens l.reader);
-  spools : SpoolsPoints (mesh_reading l.fn.tokens l.fn.reader) (mesh_reading l.tokens l.reader) (g.S.Scratch.told l.fn.scratch) (with_waiting (g.S.Scratch.told l.scratch) l.spool.waiting) l.spool l.span;
+  spools : SpoolsPoints (mesh_reading l.fn.tokens l.fn.reader) (mesh_reading l.tokens l.reader) (g.S.Scratch.told l.fn.scratch) (with_waiting (g.S.Scratch.told l.scratch) l.spool.waiting) l.spool l.bounds;
   left : l.spool.count + l.reader.body.vertices ≡ l.fn.reader.body.vertices;
   unclosed : l.spool.closed ≡ false;
   window : l.spool.window ≡ l.fn.spool.window;

@@ -3,7 +3,7 @@ use Rattle.std.proofs.Common.{◌≡◌}
 use Rattle.svo_base.specs.declared.shapes.Triangle.{Triangle}
 use Rattle.morton_scan.specs.Narrowing.{IsNarrowed}
 use Rattle.morton_scan.specs.Nodes.{IsNode}
-use Rattle.morton_scan.specs.Reaching.{bounds_of}
+use Rattle.svo_base.specs.Boxes.{bounds_of}
 use Rattle.morton_scan.proofs.narrowing.narrowed.Given as goal
 
 abbrev pub invariant-loop-octant : goal.invariant-loop-octant

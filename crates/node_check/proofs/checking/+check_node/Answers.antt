@@ -10,8 +10,8 @@ use Rattle.node_check.proofs.checking.+check_node.Goals as goal
 
 pub returns-then-height-eq0-clause-fits : goal.returns-then-height-eq0-clause-fits
 returns-then-height-eq0-clause-fits g t c =
-    leaf_agrees (rule_of c.args.format) (g.R.Records.file c.args.nodes.now).words c.args.node.now.word c.args.node.now.number c.args.at c.args.height c.leaf_span.result c.if-height-eq0.true c.requires.word
-    c.leaf_span.ensures.fits
+    leaf_agrees (rule_of c.args.format) (g.R.Records.file c.args.nodes.now).words c.args.node.now.word c.args.node.now.number c.args.at c.args.height c.leaf_subtree.result c.if-height-eq0.true c.requires.word
+    c.leaf_subtree.ensures.fits
 
 pub returns-then-is_misplaced-clause-fits : goal.returns-then-is_misplaced-clause-fits
 returns-then-is_misplaced-clause-fits g t c =
@@ -54,18 +54,18 @@ pub returns-clause-fits : goal.returns-clause-fits
 returns-clause-fits g t c =
     let done : c.loop-place.place ≡ c.ones-count.result = omega (arith, c.loop-place.auto.place-end, c.loop-place-test.false) in
     parent_agrees (rule_of c.args.format) c.args.height c.args.node.now.word c.args.node.now.number c.args.at c.ones-count.result c.is_misplaced.result c.if-height-eq0.false c.ones-count.ensures.value c.is_misplaced.ensures
-    (g.R.Records.file c.args.nodes.now).words c.parent_span.result c.loop-place.below.next c.loop-place.below.cells c.requires.word c.if-is_misplaced.false
+    (g.R.Records.file c.args.nodes.now).words c.parent_subtree.result c.loop-place.below.next c.loop-place.below.cells c.requires.word c.if-is_misplaced.false
     (subst (λ n. IfSome (g.R.Records.file c.args.nodes.now).words (λ words. IsLeft (fit (rule_of c.args.format) words (c.args.height - 1)) (c.args.node.now.word / 256) c.ones-count.result c.args.at n c.loop-place.below.next c.loop-place.below.cells))
     done c.loop-place.invariant.left)
-    c.parent_span.ensures.fits
+    c.parent_subtree.ensures.fits
 
 pub returns-clause-bounds : goal.returns-clause-bounds
 returns-clause-bounds g t c =
     let done : c.loop-place.place ≡ c.ones-count.result = omega (arith, c.loop-place.auto.place-end, c.loop-place-test.false) in
     bounded (g.R.Records.file c.args.nodes.now).totals.records c.args.height c.args.at c.args.reads.now c.loop-place.reads c.loop-place.below.next c.loop-place.below.cells (c.args.node.now.word / 256) c.ones-count.result
-    c.args.node.now.number c.parent_span.result
-    (subst (λ n. IfOk c.parent_span.result (λ span. (c.loop-place.below.next ≡ c.args.node.now.word / 256) × (span.next ≡ c.args.node.now.word / 256 + n))) (sym c.ones-count.ensures.value) c.parent_span.ensures.next)
-    c.parent_span.ensures.cells
+    c.args.node.now.number c.parent_subtree.result
+    (subst (λ n. IfOk c.parent_subtree.result (λ span. (c.loop-place.below.next ≡ c.args.node.now.word / 256) × (span.next ≡ c.args.node.now.word / 256 + n))) (sym c.ones-count.ensures.value) c.parent_subtree.ensures.next)
+    c.parent_subtree.ensures.cells
     (children_before (rule_of c.args.format) c.args.height c.args.node.now.word c.args.node.now.number c.args.at c.ones-count.result c.is_misplaced.result c.if-height-eq0.false c.ones-count.ensures.value c.is_misplaced.ensures
     c.if-is_misplaced.false)
     c.requires.number c.ones-count.ensures.few (subst (λ n. c.loop-place.below.cells ≤ n * 8 ^ c.args.height) done c.loop-place.invariant.few) c.loop-place.invariant.once

@@ -1,6 +1,7 @@
 -- Child after child, from the first that may have a cell that is asked for.
 use Rattle.std.proofs.Common.{◌≡◌, ◌+◌, ◌-◌, ◌*◌, ◌/◌, ◌^◌, ◌<◌, ◌≤◌, true, Some, None, Ok, Err, refl, sym, subst, ◌∙◌, arith}
 use Rattle.std.specs.Prelude.{IfSome}
+use Rattle.svo_base.specs.declared.grids.TheConstants.{MAX_DEPTH}
 use Rattle.node_file.specs.FileView.{FileView}
 use Rattle.node_check.specs.Walks.{IsWordOf, passes}
 use Rattle.node_check.specs.Cursors.{IsKept, IsParent}
@@ -44,7 +45,7 @@ returns-in_err-next-clause-told g t c =
 
 pub next_under-requires : goal.next_under-requires
 next_under-requires g t c κs within =
-    let code : (8 * c.args.code + c.loop-place.place) < 8 ^ (12 - (c.args.height - 1)) = child_code c.args.code c.loop-place.place c.args.height c.requires.least c.requires.most c.loop-place-test.true c.requires.code in (
+    let code : (8 * c.args.code + c.loop-place.place) < 8 ^ (MAX_DEPTH - (c.args.height - 1)) = child_code c.args.code c.loop-place.place c.args.height c.requires.least c.requires.most c.loop-place-test.true c.requires.code in (
       omega (arith, c.decreases, c.requires.least),
       (
         within.0,

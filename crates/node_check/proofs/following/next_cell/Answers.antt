@@ -1,6 +1,7 @@
 -- From the root down.
 use Rattle.std.proofs.Common.{◌≡◌, ◌-◌, ◌/◌, ◌^◌, ◌≤◌, Ok, Err, sym, ap, subst, ◌∙◌}
 use Rattle.std.specs.Prelude.{IfSome, List}
+use Rattle.svo_base.specs.declared.grids.TheConstants.{MAX_DEPTH}
 use Rattle.svo_base.specs.GridShape.{GridShape}
 use Rattle.octree_specs.specs.Cells.{Cell}
 use Rattle.octree_specs.specs.Formats.{StandFor}
@@ -12,7 +13,7 @@ use Rattle.node_check.proofs.Walks.{root_leads, err_is}
 use Rattle.node_check.proofs.following.next_cell.Goals as goal
 
 pub next_under-requires-clause-code : goal.next_under-requires-clause-code
-next_under-requires-clause-code g c = power_some (12 - c.depth-depth.result)
+next_under-requires-clause-code g c = power_some (MAX_DEPTH - c.depth-depth.result)
 
 pub returns-in_err-next-clause-told : goal.returns-in_err-next-clause-told
 returns-in_err-next-clause-told g c =

@@ -1,6 +1,7 @@
 -- One step down at a time.
 use Rattle.std.proofs.Common.{◌≡◌, ◌-◌, ◌/◌, ◌%◌, ◌^◌, ◌<◌, ◌≤◌, true, false, sym, ap, subst, ◌∙◌, arith}
 use Rattle.std.specs.Prelude.{IfSome, List}
+use Rattle.svo_base.specs.declared.grids.TheConstants.{MAX_DEPTH}
 use Rattle.svo_base.specs.GridShape.{GridShape}
 use Rattle.octree_specs.specs.Cells.{Cell}
 use Rattle.octree_specs.specs.Formats.{StandFor}
@@ -20,7 +21,7 @@ loop-height-init g c =
           c.in_ok-node.ensures.last;
       word = c.in_ok-node.ensures.word;
       least = subst (λ h. 1 ≤ h) (sym deep) c.grid.ensures.framed.limits.halved;
-      most = subst (λ h. h ≤ 12) (sym deep) c.grid.ensures.framed.limits.shallow;
+      most = subst (λ h. h ≤ MAX_DEPTH) (sym deep) c.grid.ensures.framed.limits.shallow;
       few = omega (arith, deep, c.in_ok-node.ensures.reads);
       looked = c.in_ok-node.ensures.looked;
       same = c.in_ok-node.ensures.same;

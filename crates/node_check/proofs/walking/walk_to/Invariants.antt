@@ -1,6 +1,7 @@
 -- The node is that of the code, so many levels up, and the words lead on from it.
 use Rattle.std.proofs.Common.{◌≡◌, ◌+◌, ◌-◌, ◌≤◌}
 use Rattle.std.specs.Prelude.{IfSome}
+use Rattle.svo_base.specs.declared.grids.TheConstants.{MAX_DEPTH}
 use Rattle.node_check.specs.Counts.{LooksAsReads}
 use Rattle.node_check.specs.Walks.{IsWordOf, led_to}
 use Rattle.node_check.proofs.Walks.{Leads}
@@ -12,7 +13,7 @@ invariant-loop-height g l = record {
   led : IfSome (g.R.Records.file l.fn.nodes).words (λ words. led_to words (g.R.Records.file l.fn.nodes).grid.depth l.code ((g.R.Records.file l.fn.nodes).totals.records - 1) ≡ led_to words l.height l.code l.node.number);
   word : IsWordOf (g.R.Records.file l.fn.nodes).words (g.R.Records.file l.fn.nodes).totals.records l.node.number l.node.word;
   least : 1 ≤ l.height;
-  most : l.height ≤ 12;
+  most : l.height ≤ MAX_DEPTH;
   few : l.reads + l.height ≤ l.fn.reads + 1 + (g.R.Records.file l.fn.nodes).grid.depth;
   looked : LooksAsReads (g.R.Records.looked l.fn.nodes) (g.R.Records.looked l.nodes) l.fn.reads l.reads;
   same : g.R.Records.file l.nodes ≡ g.R.Records.file l.fn.nodes;

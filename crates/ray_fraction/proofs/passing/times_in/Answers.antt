@@ -1,7 +1,7 @@
 use Rattle.std.proofs.Common.{◌≡◌, ⊎_elim, subst}
 use Rattle.ray_fraction.specs.Spans.{IsDuring}
-use Rattle.ray_fraction.specs.declared.spans.Span.{Span}
-use Rattle.ray_fraction.specs.declared.spans.Span.TheVariants.{Never, Always}
+use Rattle.ray_fraction.specs.declared.spans.TimeSpan.{TimeSpan}
+use Rattle.ray_fraction.specs.declared.spans.TimeSpan.TheVariants.{Never, Always}
 use Rattle.ray_fraction.proofs.Ends.{stands_still}
 use Rattle.ray_fraction.proofs.passing.times_in.Goals as goal
 
@@ -14,7 +14,7 @@ returns-in-Never c = λ n m some. (
       let z = (c.crossing-z.ensures.times n m some).1 inside.z in
       let both = (c.meet.ensures.times n m some).1 (x, y) in
       let all = (c.meet-2.ensures.times n m some).1 (both, z) in
-      ⊎_elim (λ (never : c.meet-2.result ≡ Never). let P : Span → Type 0 = λ span. IsDuring span n m in absurd (subst P never all)) (λ (always : c.meet-2.result ≡ Always).
+      ⊎_elim (λ (never : c.meet-2.result ≡ Never). let P : TimeSpan → Type 0 = λ span. IsDuring span n m in absurd (subst P never all)) (λ (always : c.meet-2.result ≡ Always).
       let ray = c.args.ray.now in
       let later = c.meet-2.ensures.always always in
       let first = c.meet.ensures.always later.0 in

@@ -1,6 +1,7 @@
 -- From the root down, along the nodes that were entered last.
 use Rattle.std.proofs.Common.{◌≡◌, ◌-◌, ◌/◌, ◌^◌, ◌≤◌, List, Some, Ok, Err, sym, subst, arith}
 use Rattle.std.specs.Prelude.{IfSome}
+use Rattle.svo_base.specs.declared.grids.TheConstants.{MAX_DEPTH}
 use Rattle.octree_specs.specs.Cells.{Cell}
 use Rattle.octree_specs.specs.Formats.{StandFor}
 use Rattle.node_file.specs.FileView.{FileView}
@@ -11,7 +12,7 @@ use Rattle.node_check.proofs.Walks.{err_is}
 use Rattle.node_check.proofs.cursor.CellWalk.next.Goals as goal
 
 pub next_under-requires-clause-code : goal.next_under-requires-clause-code
-next_under-requires-clause-code g c = power_some (12 - c.args.self.now.depth)
+next_under-requires-clause-code g c = power_some (MAX_DEPTH - c.args.self.now.depth)
 
 pub returns-in_err-next-clause-told : goal.returns-in_err-next-clause-told
 returns-in_err-next-clause-told g c =

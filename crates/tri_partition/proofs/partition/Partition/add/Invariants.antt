@@ -2,7 +2,7 @@
 use Rattle.std.proofs.Common.{◌≡◌, ◌≤◌, ◌-◌}
 use Rattle.std.specs.List.{flat_map, range_with_len}
 use Rattle.tri_partition.specs.Partitioning.{Spills}
-use Rattle.tri_partition.specs.Spans.{layer_parcels}
+use Rattle.tri_partition.specs.PartRanges.{layer_parcels}
 use Rattle.tri_partition.proofs.partition.Partition.add.Given as goal
 
 abbrev pub invariant-loop-z : goal.invariant-loop-z

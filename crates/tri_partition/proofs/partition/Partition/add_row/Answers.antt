@@ -3,7 +3,7 @@ use Rattle.std.proofs.Common.{◌≡◌, ◌-◌, ◌∷◌, [], map, refl, arit
 use Rattle.std.specs.List.{range_with_len}
 use Rattle.octree_specs.specs.NodeCube.{code_of}
 use Rattle.tri_partition.specs.Partitioning.{Spills}
-use Rattle.tri_partition.specs.Spans.{parcel_to}
+use Rattle.tri_partition.specs.PartRanges.{parcel_to}
 use Rattle.tri_partition.proofs.SpilledRuns.{none_spilled, no_range, spills_part}
 use Rattle.tri_partition.proofs.partition.Partition.add_row.Goals as goal
 

@@ -2,7 +2,7 @@
 use Rattle.std.proofs.Common.{◌≡◌, ◌≤◌, ◌-◌, map}
 use Rattle.std.specs.List.{range_with_len}
 use Rattle.tri_partition.specs.Partitioning.{Spills}
-use Rattle.tri_partition.specs.Spans.{parcel_to}
+use Rattle.tri_partition.specs.PartRanges.{parcel_to}
 use Rattle.tri_partition.proofs.partition.Partition.add_row.Given as goal
 
 abbrev pub invariant-loop-x : goal.invariant-loop-x
