@@ -11,7 +11,6 @@ use Rattle.octree_specs.specs.Octree.{is_nonempty, leaf_word}
 use Rattle.octree_specs.specs.Walking.{HasTree, HasMasks, child_number}
 use Rattle.octree_laws.proofs.Images.{at_depth}
 use Rattle.octree_laws.proofs.Maps.{map_has_masks, map_has_faces}
-use Rattle.octree_laws.proofs.Soundness.{rank_below}
 use Rattle.octree_laws.proofs.Under.{div-up, div-leaf, empty_below}
 use Rattle.node_file.specs.FileView.{FileView, IsFileView}
 use Rattle.node_check.specs.Walks.{face_at, keeps_face, IsWordOf, IsAbove, has_child, led_to, LeadsOn, WalksTo, Gives}
@@ -36,7 +35,10 @@ pub above_node : (told : Option (List ℕ)) (records number word place child : �
     → IsAbove told records number word
 above_node told records number word place child own octant bit is far = record {
   word_is = own;
-  above = omega (arith, rank_below word place octant bit, is, far);
+  place = place;
+  octant = octant;
+  child = bit;
+  late = subst (λ n. number ≤ n) is far;
 }
 
 -- ---- maps by codes

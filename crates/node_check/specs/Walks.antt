@@ -1,7 +1,7 @@
 -- What walks down a file's words answer.
 use Rattle.std.specs.Prelude.{◌≡◌, ℕ, zero, suc, ◌+◌, ◌-◌, ◌/◌, ◌%◌, ◌^◌, ◌<◌, ◌≤◌, ◌==◌, ◌&&◌, ◌||◌, ◌⊎◌, ⊤, not, nat_lt, nat_le, Bool, true, false, cond, is_some, List, [], ◌∷◌, slice_index, Option, None, Some, Result, Ok, Err, IfSome}
 use Rattle.octree_specs.specs.Cells.{Cell}
-use Rattle.octree_specs.specs.Checking.{mask_in, base_in, ones_in}
+use Rattle.octree_specs.specs.Checking.{mask_in, base_in}
 use Rattle.octree_specs.specs.Formats.{face_leaves}
 use Rattle.octree_specs.specs.Walking.{HasTree, HasMasks, child_number}
 use Rattle.node_check.specs.declared.walking.Node.{Node}
@@ -18,20 +18,23 @@ pub record IsWordOf (told : Option (List ℕ)) (records number word : ℕ) : Typ
   pub there : number < records
   pub own : IfSome told (λ words. word ≡ slice_index words number)
 
--- the word's children do not all stand before it
+-- whether a word has a bit for the child at this place
+abbrev pub has_child : ℕ → ℕ → Bool
+has_child word place = word / 2 ^ place % 2 == 1
+
+-- the word has a bit for a child, and places that child at its own number or behind it
 pub record IsAbove (told : Option (List ℕ)) (records number word : ℕ) : Type 0 where
   pub word_is : IsWordOf told records number word
-  pub above : number < base_in word + ones_in word
+  pub place : ℕ
+  pub octant : place < 8
+  pub child : has_child word place ≡ true
+  pub late : number ≤ child_number word place
 
 -- a walk refuses nothing but such a word
 abbrev pub RefusesAbove : {T : Type 0} → Option (List ℕ) → ℕ → Result T WalkFault → Type 0
 RefusesAbove told records (Ok answer) = ⊤
 RefusesAbove told records (Err Failed) = ⊤
 RefusesAbove told records (Err (Refused number word)) = IsAbove told records number word
-
--- whether a word has a bit for the child at this place
-abbrev pub has_child : ℕ → ℕ → Bool
-has_child word place = word / 2 ^ place % 2 == 1
 
 -- the number to which masks and bases lead from a node's, so many levels down toward a code; none where a mask has no bit for it
 unfoldable pub led_to : List ℕ → ℕ → ℕ → ℕ → Option ℕ
