@@ -6,6 +6,3 @@ mod reading;
 
 pub use kept_blocks::BlockCache;
 pub use reading::Blocks;
-
-#[cfg(test)]
-mod tests;

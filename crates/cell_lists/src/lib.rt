@@ -8,6 +8,3 @@ mod pushing;
 
 pub use lifting::lift;
 pub use listing::list_cells;
-
-#[cfg(test)]
-mod tests;

@@ -10,6 +10,3 @@ mod levels;
 
 pub use codes::{ancestor, turning_height};
 pub use levels::LevelQueues;
-
-#[cfg(test)]
-mod tests;

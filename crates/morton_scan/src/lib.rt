@@ -18,8 +18,3 @@ pub use filling::fill_triangle;
 pub use laws::{parcels_fill_their_slots, slots_grow_by_triangles};
 pub use part_slots::PartSlots;
 pub use parts::fill_part;
-
-#[cfg(test)]
-mod stream_tests;
-#[cfg(test)]
-mod tests;

@@ -16,8 +16,3 @@ pub use following::next_cell;
 pub use queries::{face_of, has};
 pub use stops::AnswerStop;
 pub use walking::{Node, WalkFault, child_at, has_bit, root};
-
-#[cfg(test)]
-mod store_tests;
-#[cfg(test)]
-mod tests;

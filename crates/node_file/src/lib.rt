@@ -18,8 +18,3 @@ pub use loading::{Frame, LoadFault};
 pub use records::{Records, Totals};
 pub use stored::Nodes;
 pub use writer::NodeWriter;
-
-#[cfg(test)]
-mod store_tests;
-#[cfg(test)]
-mod tests;

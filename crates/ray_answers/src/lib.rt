@@ -11,6 +11,3 @@ mod waiting;
 pub use answering::answer_rays;
 pub use laws::{answers_are_one, fronts_are_of_all_answers};
 pub use stops::RayStop;
-
-#[cfg(test)]
-mod tests;

@@ -17,6 +17,3 @@ pub use laws::{
 pub use passing::{entry, exit};
 pub use rays::{Ray, RayFault};
 pub use times::{Time, compare};
-
-#[cfg(test)]
-mod tests;

@@ -12,6 +12,3 @@ mod walking;
 
 pub use casting::cast;
 pub use hits::Hit;
-
-#[cfg(test)]
-mod tests;

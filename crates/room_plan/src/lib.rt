@@ -12,6 +12,3 @@ pub use elements::{Parcel, VertexBlock};
 pub use planning::{MemPlan, PlanFault, plan};
 pub use queues::{QueueEntry, Queues};
 pub use rooms::Room;
-
-#[cfg(test)]
-mod tests;

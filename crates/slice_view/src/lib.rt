@@ -18,8 +18,3 @@ pub use laws::{fronts_are_of_whole_views, pixels_refuse_only_still_rays, views_a
 pub use node_check::AnswerStop;
 pub use slicing::slice;
 pub use viewing::view;
-
-#[cfg(test)]
-mod tests;
-#[cfg(test)]
-mod view_tests;

@@ -17,6 +17,3 @@ mod verdicts;
 pub use meeting::{overlaps, overlaps_by_candidates};
 pub use prepared::PreparedTriangle;
 pub use verdicts::{Verdict, why};
-
-#[cfg(test)]
-mod tests;

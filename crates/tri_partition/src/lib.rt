@@ -11,8 +11,3 @@ mod reader;
 pub use laws::{parcels_are_spilled_in_steps, parts_are_spilled, spilled_parcels_are_read_back};
 pub use partition::Partition;
 pub use reader::PartReader;
-
-#[cfg(test)]
-mod spill_tests;
-#[cfg(test)]
-mod tests;

@@ -6,6 +6,3 @@ mod spooling;
 mod waiting;
 
 pub use spooling::Spool;
-
-#[cfg(test)]
-mod tests;

@@ -1,5 +1,0 @@
--- A ledger of its own for the call.
-use Rattle.block_cache.proofs.tests.two_words_of.Given as goal
-
-abbrev pub ghosts-two_words_counted : goal.ghosts-two_words_counted
-ghosts-two_words_counted a = record { name = a.blank.name; parts = a.blank.parts }

@@ -1,5 +1,0 @@
--- A ledger of its own for the call.
-use Rattle.block_cache.proofs.tests.walked.Given as goal
-
-abbrev pub ghosts-walk_counted : goal.ghosts-walk_counted
-ghosts-walk_counted a = record { name = a.blank.name; parts = a.blank.parts }

@@ -1,0 +1,5 @@
+-- A ledger of its own for each call.
+use Rattle.build_tests.proofs.morton_scan_tests.fill.Given as goal
+
+abbrev pub ghosts-fill_counted : goal.ghosts-fill_counted
+ghosts-fill_counted a = record { name = a.blank.name; parts = a.blank.parts }

@@ -1,5 +1,0 @@
--- A ledger of its own for each call.
-use Rattle.morton_scan.proofs.tests.fill.Given as goal
-
-abbrev pub ghosts-fill_counted : goal.ghosts-fill_counted
-ghosts-fill_counted a = record { name = a.blank.name; parts = a.blank.parts }

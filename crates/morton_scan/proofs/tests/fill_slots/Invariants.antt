@@ -1,5 +1,0 @@
--- A ledger of its own for each call.
-use Rattle.morton_scan.proofs.tests.fill_slots.Given as goal
-
-abbrev pub ghosts-fill_slots_counted : goal.ghosts-fill_slots_counted
-ghosts-fill_slots_counted a = record { name = a.blank.name; parts = a.blank.parts }

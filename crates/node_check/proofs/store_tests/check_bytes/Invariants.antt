@@ -1,5 +1,0 @@
--- A ledger of its own for the call.
-use Rattle.node_check.proofs.store_tests.check_bytes.Given as goal
-
-abbrev pub ghosts-check_counted : goal.ghosts-check_counted
-ghosts-check_counted a = record { name = a.blank.name; parts = a.blank.parts }

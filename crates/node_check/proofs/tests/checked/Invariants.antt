@@ -1,5 +1,0 @@
--- A ledger of its own for the call.
-use Rattle.node_check.proofs.tests.checked.Given as goal
-
-abbrev pub ghosts-checked_in : goal.ghosts-checked_in
-ghosts-checked_in a = record { name = a.blank.name; parts = a.blank.parts }

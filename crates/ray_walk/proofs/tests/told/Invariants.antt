@@ -1,5 +1,0 @@
--- A ledger of its own for the call.
-use Rattle.ray_walk.proofs.tests.told.Given as goal
-
-abbrev pub ghosts-told_in : goal.ghosts-told_in
-ghosts-told_in a = record { name = a.blank.name; parts = a.blank.parts }

@@ -1,4 +1,0 @@
-use Rattle.room_plan.proofs.tests.placed_twice.Given as goal
-
-abbrev pub ghosts-place_twice : goal.ghosts-place_twice
-ghosts-place_twice a = record { name = a.blank.name; parts = a.blank.parts }

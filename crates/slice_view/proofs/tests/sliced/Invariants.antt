@@ -1,5 +1,0 @@
--- A ledger of its own for the call.
-use Rattle.slice_view.proofs.tests.sliced.Given as goal
-
-abbrev pub ghosts-sliced_in : goal.ghosts-sliced_in
-ghosts-sliced_in a = record { name = a.blank.name; parts = a.blank.parts }
