@@ -1,24 +1,28 @@
-/* Lists the cells of a node file: code, x, y, z, face. An example of svo_nodes.h:
- *     cc -O2 -o list_cells readers/list_cells.c && ./list_cells house.svo */
+/* Lists the cells of a node file as `svo cells` does, code, x, y, z, or with --faces the face of each as well. An
+ * example of svo_nodes.h:
+ *     cc -O2 -o list_cells list_cells.c && ./list_cells house.svo */
 #include "svo_nodes.h"
 #include <inttypes.h>
+#include <stdio.h>
 
 static int print_cell(void *context, uint64_t code, uint64_t face) {
-    const struct svo_nodes *nodes = context;
+    const int *with_faces = context;
     uint32_t place[3];
-    uint64_t found;
     svo_place(code, place);
-    printf("%" PRIu64 " %" PRIu32 " %" PRIu32 " %" PRIu32 " %" PRIu64 "\n", code, place[0], place[1], place[2], face);
-    return svo_find(nodes, code, &found) == SVO_YES && found == face ? 0 : SVO_BROKEN;
+    printf("%" PRIu64 " %" PRIu32 " %" PRIu32 " %" PRIu32, code, place[0], place[1], place[2]);
+    if (*with_faces) printf(" %" PRIu64, face);
+    putchar('\n');
+    return 0;
 }
 
 int main(int count, char **words) {
     struct svo_nodes nodes;
-    if (count != 2 || svo_open(&nodes, words[1]) != SVO_YES) {
-        fputs("list_cells: give the name of a node file\n", stderr);
+    int with_faces = count == 3 && !strcmp(words[1], "--faces");
+    if (count != 2 + with_faces || svo_open(&nodes, words[1 + with_faces]) != SVO_YES) {
+        fputs("list_cells: give the name of a node file, and --faces before it if the faces are wanted\n", stderr);
         return 2;
     }
-    int status = svo_walk(&nodes, print_cell, &nodes) ? 1 : 0;
+    int status = svo_walk(&nodes, print_cell, &with_faces) ? 1 : 0;
     svo_close(&nodes);
-    return status;
+    return fflush(stdout) || status;
 }

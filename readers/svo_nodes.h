@@ -1,19 +1,26 @@
-/* Reads node files, of format 1 and 2, as docs/FORMATS.md describes them, in C99.
+/* Reads node files, of format 1 and 2, as docs/FORMATS.md describes them, in C99 on a POSIX system: the file is
+ * mapped, and read as far as it is asked for. Include it before other headers, or define _POSIX_C_SOURCE 200809L.
  *
  * The frame of a file is checked when it is opened. Its words are only followed as far as they are asked for,
  * and SVO_BROKEN is answered where one of those leads nowhere; `svo check` checks a file whole. */
 #ifndef SVO_NODES_H
 #define SVO_NODES_H
+#ifndef _POSIX_C_SOURCE
+#define _POSIX_C_SOURCE 200809L
+#endif
 
+#include <fcntl.h>
 #include <stdint.h>
-#include <stdio.h>
-#include <stdlib.h>
 #include <string.h>
+#include <sys/mman.h>
+#include <sys/stat.h>
+#include <unistd.h>
 
 enum { SVO_NO = 0, SVO_YES = 1, SVO_BROKEN = -1, SVO_NO_FILE = -2, SVO_NO_MEMORY = -3, SVO_NOT_NODES = -4 };
 
 struct svo_nodes {
-    unsigned char *bytes;
+    const unsigned char *bytes;
+    uint64_t size;    /* of the file, in bytes */
     uint64_t records; /* how many words there are */
     uint64_t filled;  /* how many filled cells */
     int64_t origin[3], side; /* the grid's lower corner, the side of a cell */
@@ -51,29 +58,27 @@ static inline int svo_is_framed(struct svo_nodes *nodes, uint64_t size) {
 }
 
 static inline void svo_close(struct svo_nodes *nodes) {
-    free(nodes->bytes);
+    if (nodes->bytes) munmap((void *)nodes->bytes, nodes->size);
     nodes->bytes = NULL;
 }
 
-/* Reads the file into memory: SVO_YES, SVO_NO_FILE, SVO_NO_MEMORY or SVO_NOT_NODES. */
+/* Maps the file: SVO_YES, SVO_NO_FILE, SVO_NO_MEMORY or SVO_NOT_NODES. */
 static inline int svo_open(struct svo_nodes *nodes, const char *path) {
-    FILE *file = fopen(path, "rb");
-    uint64_t size = 0, room = 1 << 16, got;
+    struct stat told;
+    void *bytes;
+    int file = open(path, O_RDONLY), status = SVO_YES;
     nodes->bytes = NULL;
-    if (!file) return SVO_NO_FILE;
-    do {
-        unsigned char *more = realloc(nodes->bytes, room *= 2);
-        if (!more) { fclose(file); svo_close(nodes); return SVO_NO_MEMORY; }
-        nodes->bytes = more;
-        size += got = fread(more + size, 1, room - size, file);
-    } while (got && size == room);
-    int failed = ferror(file);
-    fclose(file);
-    if (failed || size < 88 || size % 8 || !svo_is_framed(nodes, size)) {
-        svo_close(nodes);
-        return failed ? SVO_NO_FILE : SVO_NOT_NODES;
-    }
-    return SVO_YES;
+    if (file < 0) return SVO_NO_FILE;
+    if (fstat(file, &told) || !S_ISREG(told.st_mode) || told.st_size < 88 || told.st_size % 8) status = SVO_NOT_NODES;
+    nodes->size = (uint64_t)told.st_size;
+    bytes = status == SVO_YES ? mmap(NULL, nodes->size, PROT_READ, MAP_SHARED, file, 0) : MAP_FAILED;
+    close(file);
+    if (status != SVO_YES) return status;
+    if (bytes == MAP_FAILED) return SVO_NO_MEMORY;
+    nodes->bytes = bytes;
+    if (svo_is_framed(nodes, nodes->size)) return SVO_YES;
+    svo_close(nodes);
+    return SVO_NOT_NODES;
 }
 
 /* The number of a node's child that stands before it: SVO_YES, SVO_NO where there is no such child, SVO_BROKEN. */
@@ -85,27 +90,53 @@ static inline int svo_child(const struct svo_nodes *nodes, uint64_t number, int 
     return *child < number ? SVO_YES : SVO_BROKEN;
 }
 
-static inline int svo_walk_below(const struct svo_nodes *nodes, uint64_t number, uint64_t code, int level, svo_visit *visit, void *context) {
-    if (level == nodes->depth) return visit(context, code, svo_word(nodes, number) >> 8);
-    for (int i = 0; i < 8; i++) {
-        uint64_t child;
-        int stop = 0;
-        if (level == nodes->depth - 1 && nodes->format == 1) {
-            if (svo_word(nodes, number) >> i & 1) stop = visit(context, 8 * code + i, 0);
-        } else {
-            int there = svo_child(nodes, number, i, &child);
-            if (there == SVO_BROKEN) return SVO_BROKEN;
-            if (there == SVO_YES) stop = svo_walk_below(nodes, child, 8 * code + i, level + 1, visit, context);
-        }
-        if (stop) return stop;
+/* Is called with each filled node, its level and the code of its place there; anything but 0 ends the walk. */
+typedef int svo_visit_node(void *context, int level, uint64_t code, uint64_t number);
+
+static inline int svo_walk_nodes_below(const struct svo_nodes *nodes, uint64_t number, uint64_t code, int level, uint64_t *left, svo_visit_node *visit, void *context) {
+    uint64_t word, child;
+    int stop = visit(context, level, code, number);
+    if (stop || level == nodes->depth || (level == nodes->depth - 1 && nodes->format == 1)) return stop;
+    word = svo_word(nodes, number);
+    child = word >> 8;
+    for (uint64_t i = 0; i < 8 && !stop; i++) {
+        if (!(word >> i & 1)) continue;
+        /* No node stands twice in a node file, so that no walk is longer than the file. */
+        if (child >= number || (*left)-- == 0) return SVO_BROKEN;
+        stop = svo_walk_nodes_below(nodes, child++, 8 * code + i, level + 1, left, visit, context);
     }
-    return 0;
+    return stop;
+}
+
+/* Visits the nodes that have words, each before those below it, and those of a level by ascending code: 0 once all
+ * were visited, SVO_BROKEN, or what a visit answered. */
+static inline int svo_walk_nodes(const struct svo_nodes *nodes, svo_visit_node *visit, void *context) {
+    uint64_t left = nodes->records - 1;
+    return svo_walk_nodes_below(nodes, nodes->records - 1, 0, 0, &left, visit, context);
+}
+
+struct svo_cell_visit {
+    const struct svo_nodes *nodes;
+    svo_visit *visit;
+    void *context;
+};
+
+static inline int svo_visit_cells(void *context, int level, uint64_t code, uint64_t number) {
+    const struct svo_cell_visit *cells = context;
+    uint64_t word = svo_word(cells->nodes, number);
+    int stop = 0;
+    if (level == cells->nodes->depth) return cells->visit(cells->context, code, word >> 8);
+    if (level == cells->nodes->depth - 1 && cells->nodes->format == 1)
+        for (uint64_t i = 0; i < 8 && !stop; i++)
+            if (word >> i & 1) stop = cells->visit(cells->context, 8 * code + i, 0);
+    return stop;
 }
 
 /* Visits the filled cells by ascending code, each with its face (0 in format 1): 0 once all were visited, SVO_BROKEN,
  * or what a visit answered. */
 static inline int svo_walk(const struct svo_nodes *nodes, svo_visit *visit, void *context) {
-    return svo_walk_below(nodes, nodes->records - 1, 0, 0, visit, context);
+    struct svo_cell_visit cells = {nodes, visit, context};
+    return svo_walk_nodes(nodes, svo_visit_cells, &cells);
 }
 
 /* Whether the cell is filled, and its face (0 in format 1): SVO_YES, SVO_NO, SVO_BROKEN. */
@@ -129,7 +160,7 @@ static inline int svo_find(const struct svo_nodes *nodes, uint64_t code, uint64_
 static inline void svo_place(uint64_t code, uint32_t place[3]) {
     for (int axis = 0; axis < 3; axis++) {
         place[axis] = 0;
-        for (int i = 0; i < 20; i++) place[axis] |= (uint32_t)(code >> (3 * i + axis) & 1) << i;
+        for (int i = 0; i < 12; i++) place[axis] |= (uint32_t)(code >> (3 * i + axis) & 1) << i;
     }
 }
 

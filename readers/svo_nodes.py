@@ -4,11 +4,15 @@
     nodes.depth, nodes.origin, nodes.side       the grid
     for code, face in nodes.cells(): ..         the filled cells, by ascending code
     nodes.face_of(code)                         the face that a filled cell keeps, or None
+    nodes.center(code)                          the middle of a cell, in the units of the grid
+    nodes.children(level, code)                 the codes of the filled nodes below a node, on the next level
+    nodes.cell_array()                          all cells as an array of NumPy: a row code, x, y, z, face for each
     svo_nodes.place_of(code)                    x, y, z of a cell, counted in cells from the origin
 
 The frame of a file is checked when it is opened. Its words are only followed as far as they are asked for,
-and NodeFault comes where one of those leads nowhere; `svo check` checks a file whole. As a program,
-`python3 svo_nodes.py FILE` lists the cells: code, x, y, z, face.
+and NodeFault comes where one of those leads nowhere; `svo check` checks a file whole. NumPy is needed for
+cell_array alone. As a program, `python3 svo_nodes.py [--faces] FILE` lists the cells as `svo cells` does: code, x,
+y, z, and with --faces the face.
 """
 
 import mmap
@@ -72,22 +76,63 @@ class NodeFile:
         """The face that a filled cell keeps (0 in format 1), or None where the cell is not filled."""
         if not 0 <= code < 8**self.depth:
             return None
+        number = self._find(self.depth - (self.format == 1), code >> 3 * (self.format == 1))
+        if number is None:
+            return None
+        mask, base = self.word(number)
+        return base if self.format == 2 else 0 if mask >> (code & 7) & 1 else None
+
+    def _find(self, level, code):
+        """The number of the node of a level with this code, or None where it is not filled."""
         number = self.records - 1
-        for level in range(self.depth):
-            place = code >> 3 * (self.depth - 1 - level) & 7
+        for up in reversed(range(level)):
+            place = code >> 3 * up & 7
             if not self.word(number)[0] >> place & 1:
                 return None
-            if level == self.depth - 1 and self.format == 1:
-                return 0
             number = dict(self._children(number))[place]
-        return self.word(number)[1]
+        return number
+
+    def children(self, level, code):
+        """The codes, on the next level, of the filled nodes below the node of a level (0 to depth - 1) with this code."""
+        if not (0 <= level < self.depth and 0 <= code < 8**level):
+            raise ValueError(f"there is no node {code} above the cells on level {level}")
+        number = self._find(level, code)
+        mask = 0 if number is None else self.word(number)[0]
+        return [8 * code + i for i in range(8) if mask >> i & 1]
+
+    def center(self, code):
+        """The middle of the cell with this code, in the units of the grid; halves are exact."""
+        return tuple(low + self.side * (place + 0.5) for low, place in zip(self.origin, place_of(code)))
+
+    def cell_array(self):
+        """The filled cells by ascending code, a row code, x, y, z, face for each (face 0 in format 1)."""
+        import numpy
+
+        words = numpy.frombuffer(self._bytes, "<u8", self.records, HEADER)
+        codes, numbers = numpy.zeros(1, "<u8"), numpy.full(1, self.records - 1, "<u8")
+        for level in range(self.depth):
+            mask, base = words[numbers.astype("i8")] & numpy.uint64(255), words[numbers.astype("i8")] >> numpy.uint64(8)
+            bits = (mask[:, None] >> numpy.arange(8, dtype="<u8")) & numpy.uint64(1)
+            codes = (codes[:, None] * numpy.uint64(8) + numpy.arange(8, dtype="<u8"))[bits == 1]
+            below = base[:, None] + numpy.cumsum(bits, axis=1, dtype="<u8") - numpy.uint64(1)
+            if self.format == 1 and level == self.depth - 1:
+                numbers = None
+                break
+            if len(codes) >= self.records or numpy.any((below >= numbers[:, None]) & (bits == 1)):
+                raise NodeFault("a record leads nowhere")
+            numbers = below[bits == 1]
+        faces = numpy.zeros(len(codes), "<u8") if numbers is None else words[numbers.astype("i8")] >> numpy.uint64(8)
+        places = [sum(((codes >> numpy.uint64(3 * i + axis)) & numpy.uint64(1)) << numpy.uint64(i) for i in range(12)) for axis in range(3)]
+        return numpy.stack([codes, *places, faces], axis=1).astype("i8")
 
 
 def place_of(code):
     """x, y, z of the cell with this Morton code."""
-    return tuple(sum((code >> 3 * i + axis & 1) << i for i in range(20)) for axis in range(3))
+    return tuple(sum((code >> 3 * i + axis & 1) << i for i in range(12)) for axis in range(3))
 
 
 if __name__ == "__main__":
-    for code, face in NodeFile(sys.argv[1]).cells():
-        print(code, *place_of(code), face)
+    if len(sys.argv) not in (2, 3) or sys.argv[1:-1] not in ([], ["--faces"]):
+        sys.exit("usage: svo_nodes.py [--faces] FILE")
+    for code, face in NodeFile(sys.argv[-1]).cells():
+        print(code, *place_of(code), *([face] if len(sys.argv) == 3 else []))
