@@ -27,6 +27,23 @@ const HIGH: i64 = (1 << 31) - 1;
 /// The greatest size of a plane.
 const FAR: i64 = 1 << 33;
 
+/// The greatest length of a triangle's box that is asked in 64 bits.
+const LONG: i32 = 1 << 29;
+
+/// A triangle with the greatest such box, far from 0. Its plane is across x and y.
+const LONGEST: Corners = [
+    [MIN, MIN + LONG, MIN],
+    [MIN + LONG, MIN, MIN],
+    [MIN, MIN + LONG, MIN + LONG],
+];
+
+/// The same with a box that is longer by one.
+const LONGER: Corners = [
+    [MIN, MIN + LONG + 1, MIN],
+    [MIN + LONG + 1, MIN, MIN],
+    [MIN, MIN + LONG + 1, MIN + LONG + 1],
+];
+
 /// A right angle in the plane z = 0.
 const FLAT: Corners = [[0, 0, 0], [1, 0, 0], [0, 1, 0]];
 
@@ -176,6 +193,24 @@ const CASES: &[(&str, Corners, Planes, bool)] = &[
         "just above it",
         WHOLE,
         ([HIGH, HIGH + 1, HIGH], [FAR, FAR, FAR]),
+        false,
+    ),
+    (
+        "the corner before the longest in 64 bits",
+        LONGEST,
+        ([-FAR, -FAR, LOW], [LOW + 1, LOW + (1 << 29) - 1, LOW]),
+        true,
+    ),
+    (
+        "just short of its plane",
+        LONGEST,
+        ([-FAR, -FAR, LOW], [LOW + 1, LOW + (1 << 29) - 2, LOW]),
+        false,
+    ),
+    (
+        "just short of one that is longer",
+        LONGER,
+        ([-FAR, -FAR, LOW], [LOW + 1, LOW + (1 << 29) - 1, LOW]),
         false,
     ),
     (

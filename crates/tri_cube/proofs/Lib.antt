@@ -1,3 +1,4 @@
+pub mod Clipping
 pub mod CornerProducts
 pub mod Directions
 pub mod Farkas
@@ -5,6 +6,7 @@ pub mod FirstAxis
 pub mod FirstGood
 pub mod DirectionKinds
 pub mod LeastProducts
+pub mod NearCorner
 pub mod NotBoth
 pub mod SameWay
 pub mod SeenApart

@@ -11,3 +11,4 @@ pub mod SeenAlong
 pub mod Sides
 pub mod Verdicts
 pub mod Views
+pub mod Near

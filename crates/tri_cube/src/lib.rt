@@ -7,12 +7,17 @@ mod candidates;
 mod extents;
 mod meeting;
 mod narrow;
+mod near;
+mod near_outlines;
+mod near_planes;
 mod outlines;
 mod planes;
 mod prepared;
 mod products;
 mod rows;
+mod small;
 mod verdicts;
+mod wide;
 
 pub use meeting::{overlaps, overlaps_by_candidates};
 pub use prepared::PreparedTriangle;

@@ -5,16 +5,48 @@ ghost use Rattle.std.specs.Prelude.{◌≡◌, ◌^◌, ◌≤◌, ◌*ℤ◌, �
 ghost use Rattle.std.specs.List.{list_any};
 ghost use Rattle.tri_cube.specs.Lines.{least_of, greatest_of, is_beyond, is_short};
 ghost use Rattle.tri_cube.specs.Outlines.{area_of, line_of, misses_outline, outline_of};
+ghost use Rattle.tri_cube.specs.Views.{seen_x, seen_y, seen_z};
 
 use crate::extents::WideExtent;
 use crate::products::{step, wide_product};
 use std::marker::Model;
+use svo_base::Point;
 
 /// A corner as it is seen along an axis: its coordinates along the two other axes.
 #[derive(Clone, Copy)]
 pub struct Seen {
     pub first: i32,
     pub second: i32,
+}
+
+/// A corner as it is seen along x.
+pub fn seen_x(at: &Point) -> Seen
+    ensures { result ≡ seen_x at.now }
+{
+    Seen {
+        first: at.y,
+        second: at.z,
+    }
+}
+
+/// A corner as it is seen along y.
+pub fn seen_y(at: &Point) -> Seen
+    ensures { result ≡ seen_y at.now }
+{
+    Seen {
+        first: at.z,
+        second: at.x,
+    }
+}
+
+/// A corner as it is seen along z.
+pub fn seen_z(at: &Point) -> Seen
+    ensures { result ≡ seen_z at.now }
+{
+    Seen {
+        first: at.x,
+        second: at.y,
+    }
 }
 
 /// A side of an outline: a direction across it, and how far its points are in that direction.

@@ -1,0 +1,9 @@
+-- The numbers fit their types, so they are what they were before the casts.
+use Rattle.std.proofs.Common.{arith, to_z-of_z}
+use Rattle.std.proofs.lemmas.Int.{ints}
+use Rattle.tri_cube.specs.Planes.{is_above}
+use Rattle.tri_cube.proofs.near_planes.NearPlane.is_passed.Goals as goal
+
+pub returns : goal.returns
+unfolding is_above
+returns c = grind (arith, ints, to_z-of_z)
