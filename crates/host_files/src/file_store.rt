@@ -1,6 +1,6 @@
 //! A store over the files of the host.
 
-ghost use Rattle.std.specs.Prelude.{◌≡◌, ◌≢◌, None, Ok, IfOk, IfErr, IsErr, length, false, not};
+ghost use Rattle.std.specs.Prelude.{◌≡◌, ◌≢◌, ◌+◌, None, Some, Ok, IfOk, IfSome, IfErr, IsErr, length, false, not};
 ghost use Rattle.std.specs.IoError.{error_kind};
 
 use crate::faults::answered;
@@ -15,11 +15,12 @@ use std::{fs, io};
 /// Room for the longest name that the system opens.
 const LONGEST_NAME: usize = 4095;
 
-/// An open file and its name.
+/// An open file, its name, and the place from which it would be read next, where that is known.
 #[derive(Drop)]
 pub struct Opened<F> {
     file: F,
     name: ArrayString<LONGEST_NAME>,
+    next: Option<u64>,
 }
 
 impl<F: OpenFile + Read + Seek> Opened<F> {
@@ -28,13 +29,22 @@ impl<F: OpenFile + Read + Seek> Opened<F> {
         Ok(self.file.metadata()?.len())
     }
 
-    /// Fills `into` with the file's bytes from a place on.
+    /// Fills `into` with the file's bytes from a place on. A piece behind the one that was read last
+    /// needs no seek.
     fn read_at(&mut self, at: u64, into: &mut [u8]) -> io::Result<()>
         ensures name { self.new.name ≡ self.old.name }
         ensures size { length into.new ≡ length into.old }
+        ensures next { IfOk result (λ _. IfSome self.new.next (λ next. next ≡ at + length into.old)) }
+        ensures unknown { IsErr result → self.new.next ≡ None }
     {
-        self.file.seek(SeekFrom::Start(at))?;
-        read_whole(&mut self.file, into)
+        let is_there = self.next == Some(at);
+        self.next = None;
+        if !is_there {
+            self.file.seek(SeekFrom::Start(at))?;
+        }
+        read_whole(&mut self.file, into)?;
+        self.next = at.checked_add(into.len() as u64);
+        Ok(())
     }
 }
 
@@ -88,14 +98,19 @@ fn is_folder<R: Files>(files: &R, name: &str) -> io::Result<bool> {
 
 /// The named file, open. A folder is no file, and a name that is too long for the system none either.
 fn open_file<R: Files>(files: &R, name: &str) -> io::Result<Opened<R::File>>
-    ensures { IfOk result (λ opened. opened.name.bytes ≡ name.now) }
+    ensures name { IfOk result (λ opened. opened.name.bytes ≡ name.now) }
+    ensures next { IfOk result (λ opened. opened.next ≡ Some 0) }
 {
     let file = File::open(files, name)?;
     if file.metadata()?.is_dir() {
         return Err(io::Error::from(ErrorKind::IsADirectory));
     }
     match ArrayString::from(name) {
-        Ok(name) => Ok(Opened { file, name }),
+        Ok(name) => Ok(Opened {
+            file,
+            name,
+            next: Some(0),
+        }),
         Err(_) => Err(io::Error::from(ErrorKind::InvalidFilename)),
     }
 }

@@ -1,21 +1,27 @@
 //! A scratch over a folder.
 
-ghost use Rattle.std.specs.Prelude.{◌≡◌, None};
+ghost use Rattle.std.specs.Prelude.{◌≡◌, ◌↔◌, None, Ok, false, length, replicate, IsOk};
+ghost use Rattle.host_files.specs.MadeStreams.{is_made};
 
 use crate::faults::answered;
+use crate::made_streams::{KEPT_APART, MadeStreams};
 use crate::stream_files::{
-    Place, append_to, kept_place, length_of, make_folder, make_streams, path_of, read_from,
+    Place, append_to, kept_place, length_of, make_folder, make_streams, make_with, path_of,
+    read_from, read_from_none,
 };
 use dev_traits::{Asking, Failed, Scratch};
 use std::io;
 use std::rt::Files;
 
-/// A folder with one file a stream, named by the stream's number. The folder stays as a build left
-/// it, and a folder that an earlier build left serves again.
+/// A folder with a file for each stream that was appended to, named by the stream's number. A stream's
+/// first append makes its file, so that streams cost what they hold; until then the stream is empty,
+/// whatever file of its name an earlier run left, and the host is asked nothing. The folder stays as a
+/// run left it, and serves again.
 #[derive(Drop)]
 pub struct FolderScratch<'a, R> {
     files: &'a R,
     place: Place,
+    made: MadeStreams,
     started: u32,
     asked: Option<Asking>,
     faults: u64,
@@ -24,6 +30,7 @@ pub struct FolderScratch<'a, R> {
 impl<'a, R> FolderScratch<'a, R> {
     /// A scratch with no stream started, which has counted no fault.
     pub fn new(files: &'a R) -> FolderScratch<'a, R>
+        ensures made { result.made ≡ replicate 4097 false }
         ensures started { result.started ≡ 0 }
         ensures asked { result.asked ≡ None }
         ensures faults { result.faults ≡ 0 }
@@ -31,6 +38,7 @@ impl<'a, R> FolderScratch<'a, R> {
         FolderScratch {
             files,
             place: Place::new(),
+            made: MadeStreams::none(),
             started: 0,
             asked: None,
             faults: 0,
@@ -45,11 +53,45 @@ impl<'a, R> FolderScratch<'a, R> {
     }
 }
 
-/// The folder of a place of up to 200 bytes, with an empty file for each stream.
+impl<'a, R: Files> FolderScratch<'a, R> {
+    /// Adds a piece to a stream, whose first piece makes its file.
+    fn grow(&self, stream: u32, piece: &[u8]) -> io::Result<()> {
+        let path = path_of(&self.place, stream);
+        if self.made.holds(stream) {
+            append_to(self.files, &path, piece)
+        } else {
+            make_with(self.files, &path, piece)
+        }
+    }
+
+    /// Fills `into` with a stream's bytes from a place on. One whose file was not made has none.
+    fn fill(&self, stream: u32, at: u64, into: &mut [u8]) -> io::Result<()>
+        ensures size { length into.new ≡ length into.old }
+        ensures empty { is_made self.now.made stream ≡ false → IsOk result ↔ (length into.old ≡ 0) }
+    {
+        if !self.made.holds(stream) {
+            return read_from_none(into);
+        }
+        read_from(self.files, &path_of(&self.place, stream), at, into)
+    }
+
+    /// How many bytes a stream has: none where its file was not made.
+    fn size(&self, stream: u32) -> io::Result<u64>
+        ensures { is_made self.now.made stream ≡ false → result ≡ Ok 0 }
+    {
+        if !self.made.holds(stream) {
+            return Ok(0);
+        }
+        length_of(self.files, &path_of(&self.place, stream))
+    }
+}
+
+/// The folder of a place of up to 200 bytes, with an empty file for each stream that is not kept
+/// apart from others.
 fn started<R: Files>(files: &R, place: &str, streams: u32) -> io::Result<Place> {
     let place = kept_place(place)?;
     make_folder(files, &place)?;
-    make_streams(files, &place, streams)?;
+    make_streams(files, &place, KEPT_APART as u32..streams)?;
     Ok(place)
 }
 
@@ -73,17 +115,19 @@ impl<'a, R: Files> Scratch for FolderScratch<'a, R> {
     }
 
     fn append(&mut self, stream: u32, piece: &[u8]) -> Result<(), Failed> {
-        let outcome = append_to(self.files, &path_of(&self.place, stream), piece);
-        answered(&mut self.faults, outcome)
+        let outcome = self.grow(stream, piece);
+        answered(&mut self.faults, outcome)?;
+        self.made.insert(stream);
+        Ok(())
     }
 
     fn read_at(&mut self, stream: u32, at: u64, into: &mut [u8]) -> Result<(), Failed> {
-        let outcome = read_from(self.files, &path_of(&self.place, stream), at, into);
+        let outcome = self.fill(stream, at, into);
         answered(&mut self.faults, outcome)
     }
 
     fn length(&mut self, stream: u32) -> Result<u64, Failed> {
-        let outcome = length_of(self.files, &path_of(&self.place, stream));
+        let outcome = self.size(stream);
         answered(&mut self.faults, outcome)
     }
 }

@@ -9,6 +9,7 @@
 mod faults;
 mod file_store;
 mod folder_scratch;
+mod made_streams;
 mod stream_files;
 mod streams;
 mod transfers;

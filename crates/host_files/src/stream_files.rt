@@ -8,6 +8,7 @@ use arrayvec::ArrayString;
 use itoa::Buffer;
 use std::fs::{File, OpenFile, OpenOptions};
 use std::io::{ErrorKind, Seek, SeekFrom};
+use std::ops::Range;
 use std::rt::Files;
 use std::{fs, io};
 
@@ -52,12 +53,18 @@ pub fn make_folder<R: Files>(files: &R, place: &Place) -> io::Result<()> {
     }
 }
 
-/// Makes an empty file for each of so many streams; what an earlier file of the name held is gone.
-pub fn make_streams<R: Files>(files: &R, place: &Place, streams: u32) -> io::Result<()> {
-    for stream in 0..streams {
+/// Makes an empty file for each of these streams; what an earlier file of the name held is gone.
+pub fn make_streams<R: Files>(files: &R, place: &Place, streams: Range<u32>) -> io::Result<()> {
+    for stream in streams {
         File::create(files, path_of(place, stream).as_str())?;
     }
     Ok(())
+}
+
+/// Makes a stream's file of this piece alone; what an earlier file of the name held is gone.
+pub fn make_with<R: Files>(files: &R, path: &Path, piece: &[u8]) -> io::Result<()> {
+    let mut file = File::create(files, path.as_str())?;
+    write_whole(&mut file, piece)
 }
 
 /// Adds a piece at the end of a stream's file.
@@ -75,6 +82,16 @@ pub fn read_from<R: Files>(files: &R, path: &Path, at: u64, into: &mut [u8]) -> 
         file.seek(SeekFrom::Start(at))?;
     }
     read_whole(&mut file, into)
+}
+
+/// Fills `into` from a stream that has no bytes, which no piece but an empty one is read from.
+pub fn read_from_none(into: &[u8]) -> io::Result<()>
+    ensures { IsOk result ↔ (length into.now ≡ 0) }
+{
+    if into.is_empty() {
+        return Ok(());
+    }
+    Err(io::Error::from(ErrorKind::UnexpectedEof))
 }
 
 /// How many bytes a stream's file has.
