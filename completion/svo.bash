@@ -3,22 +3,26 @@
 
 _svo_options() {
     case $1 in
-    build) echo '--depth --fit --origin --cell --decimals --cut --memory --scratch' ;;
+    build) echo '--depth --fit --origin --cell --decimals --cut --memory --scratch -o' ;;
     check) echo '--nodes' ;;
     has) echo '--nodes --code' ;;
     cells) echo '--nodes --keep' ;;
-    lift) echo '--nodes' ;;
+    lift) echo '--nodes -o' ;;
     cast) echo '--nodes --keep' ;;
-    slice) echo '--nodes --axis --at --keep' ;;
-    view) echo '--nodes --kind --eye --toward --right --up --width --height --far --keep' ;;
+    slice) echo '--nodes --axis --at --keep -o' ;;
+    view) echo '--nodes --kind --eye --toward --right --up --width --height --far --keep -o' ;;
     why) echo '--triangle --cube' ;;
-    make) echo '--number --side' ;;
+    make) echo '--number --side -o' ;;
     sum) echo '--number --side --depth --memory --scratch' ;;
+    survey) echo '--depth' ;;
+    info) echo '--decimals' ;;
+    ascii) echo '--decimals' ;;
     esac
 }
 
 _svo_value() {
     case $1 in
+    -o) echo 'file' ;;
     --at) echo 'number' ;;
     --axis) echo 'words x y z' ;;
     --cell) echo 'number' ;;
@@ -74,14 +78,14 @@ _svo() {
     local IFS=$' \n' here=${COMP_WORDS[COMP_CWORD]} before=${COMP_WORDS[COMP_CWORD - 1]} command=${COMP_WORDS[1]}
     COMPREPLY=()
     if [[ $COMP_CWORD == 1 ]]; then
-        COMPREPLY=($(compgen -W 'build check has cells lift cast slice view why make sum help --help --version' -- "$here"))
+        COMPREPLY=($(compgen -W 'build check has cells lift cast slice view why make sum survey info ascii help --help --version' -- "$here"))
     elif [[ $command == help ]]; then
-        [[ $COMP_CWORD == 2 ]] && COMPREPLY=($(compgen -W 'build check has cells lift cast slice view why make sum' -- "$here"))
+        [[ $COMP_CWORD == 2 ]] && COMPREPLY=($(compgen -W 'build check has cells lift cast slice view why make sum survey info ascii' -- "$here"))
     elif [[ $here == = ]]; then
         _svo_values "$before" ''
     elif [[ $before == = ]]; then
         _svo_values "${COMP_WORDS[COMP_CWORD - 2]}" "$here"
-    elif [[ $before == --* && $(_svo_value "$before") != none ]]; then
+    elif [[ $before == -* && $(_svo_value "$before") != none ]]; then
         _svo_values "$before" "$here"
     else
         COMPREPLY=($(compgen -W "$(_svo_left "$command" "$here")" -- "$here"))

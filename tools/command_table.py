@@ -23,6 +23,11 @@ def whole(option, shared):
     return {"name": option["use"], **shared[option["use"]], **option}
 
 
+def of_program(table):
+    """The commands that the program itself has, without the tools beside it."""
+    return [it for it in table["commands"] if not it.get("beside")]
+
+
 def range_of(option):
     """How the range of an option's numbers is said, if they have one."""
     if "range" in option:

@@ -47,7 +47,7 @@ _svo() {
         _svo_values "$before" ''
     elif [[ $before == = ]]; then
         _svo_values "${COMP_WORDS[COMP_CWORD - 2]}" "$here"
-    elif [[ $before == --* && $(_svo_value "$before") != none ]]; then
+    elif [[ $before == -* && $(_svo_value "$before") != none ]]; then
         _svo_values "$before" "$here"
     else
         COMPREPLY=($(compgen -W "$(_svo_left "$command" "$here")" -- "$here"))
