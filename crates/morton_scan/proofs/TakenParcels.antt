@@ -1,6 +1,7 @@
 -- The parcels of a stream are taken one after another.
-use Rattle.std.proofs.Common.{◌≡◌, ℕ, ◌+◌, ◌-◌, ◌*◌, ◌^◌, ◌≤◌, Bool, List, [], ◌∷◌, ◌++◌, map, min, get_or, Option, None, Some, Result, Ok, Err, arith, refl, sym, ap, subst, ◌∙◌}
-use Rattle.std.specs.Prelude.{IfSome}
+use Rattle.std.proofs.Common.{◌≡◌, ℕ, ◌+◌, ◌-◌, ◌*◌, ◌^◌, ◌≤◌, Bool, List, [], ◌∷◌, ◌++◌, length, map, min, get_or, Option, None, Some, Result, Ok, Err, arith, refl, sym, ap, subst, ◌∙◌}
+use Rattle.std.specs.Prelude.{IfSome, IsErr}
+use Rattle.std.proofs.lemmas.Result.{IfOk-from_err}
 use Rattle.std.specs.List.{sum_by}
 use Rattle.std.proofs.lemmas.List.Sums.{sum_by_push, sum_by-cons}
 use Rattle.std.proofs.lemmas.List.{append_assoc, append-nil, map-append}
@@ -35,6 +36,21 @@ none_taken grid split part told slots tests = record {
     at_start : (known : Option (List (List ℕ))) → IfSome known (λ streams. parcels_in (part_stream streams part) ≡ [] ++ left_of (part_stream streams part) (record { part = part; place = 0; held = [] }))
     at_start None = tt
     at_start (Some streams) = refl
+
+-- nothing was taken where the first call was refused
+pub none_refused : {T E : Type 0} (grid : GridShape) (split part : ℕ) (told : Option (List (List ℕ))) (slots : List ℕ) (tests : ℕ) (result : Result T E) → IsErr result
+    → TakesParcels grid split part told tests tests result (AddsTriangles grid split part slots slots)
+none_refused grid split part told slots tests result refused = record {
+  parcels = [];
+  taken = λ faced has. rw (append-nil faced) has;
+  tests = λ test each. omega arith;
+  front = all_left told;
+  all = IfOk-from_err result (λ _. IfSome told (λ streams. [] ≡ parcels_in (part_stream streams part))) refused;
+}
+  where
+    all_left : (known : Option (List (List ℕ))) → IfSome known (λ streams. (rest : List Faced) × (parcels_in (part_stream streams part) ≡ [] ++ rest))
+    all_left None = tt
+    all_left (Some streams) = (parcels_in (part_stream streams part), refl)
 
 -- an item that comes last in place of first
 behind : {A : Type 0} (x : A) (xs : List A) → HoldAlike (x ∷ xs) (xs ++ x ∷ [])
@@ -128,6 +144,12 @@ at_start part = record { part = part; place = 0; held = [] }
 pub fresh_holds : (told : Option (List (List ℕ))) (part : ℕ) (reader : ReaderView) → reader ≡ at_start part → IfSome told (λ streams. StillHolds (part_stream streams part) reader)
 fresh_holds None part reader is = tt
 fresh_holds (Some streams) part reader is = subst (λ r. StillHolds (part_stream streams part) r) (sym is) refl
+
+-- the length that a fresh reader asks for is that of the part's stream
+pub known_end : (told : Option (List (List ℕ))) (part : ℕ) (reader : ReaderView) → reader ≡ at_start part → (end : ℕ)
+    → IfSome told (λ streams. end ≡ length (part_stream streams reader.part)) → IfSome told (λ streams. end ≡ length (part_stream streams part))
+known_end None part reader is end asked = tt
+known_end (Some streams) part reader is end asked = subst (λ r. end ≡ length (part_stream streams r.part)) is asked
 
 -- a parcel that was given is the first that is left
 pub given_left : {E : Type 0} (told now : Option (List (List ℕ))) (part number : ℕ) (reader moved : ReaderView) (result : Result (Option Parcel) E) (parcel : Parcel)

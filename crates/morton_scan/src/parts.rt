@@ -76,7 +76,8 @@ pub fn fill_parcels<S: Scratch, L: Ledger>(
     ensures cause { HasCause (S.faults scratch.old) (S.faults scratch.new) result }
 {
     let mut reader = PartReader::new(part, block);
-    while let Some(parcel) = reader.next(scratch)? {
+    let end = reader.stream_length(scratch)?;
+    while let Some(parcel) = reader.next_before(end, scratch)? {
         fill_parcel(grid, split, part, &parcel, slots, blocks, tests);
     }
     Ok(())

@@ -52,6 +52,22 @@ impl<'a> PartReader<'a> {
         }
     }
 
+    /// How many bytes the part's stream has.
+    ///
+    /// # Errors
+    ///
+    /// `Failed`: the scratch refused the call.
+    pub fn stream_length<S: Scratch>(&self, scratch: &mut S) -> Result<u64, Failed>
+        requires stream { HasStream (S.started scratch.old) self.now.part }
+        ensures length { IfSome (S.told scratch.old) (λ streams. IfOk result (λ n. n ≡ length (part_stream streams self.now.part))) }
+        ensures told { S.told scratch.new ≡ S.told scratch.old }
+        ensures started { S.started scratch.new ≡ S.started scratch.old }
+        ensures asked { S.asked scratch.new ≡ S.asked scratch.old }
+        ensures cause { HasCause (S.faults scratch.old) (S.faults scratch.new) result }
+    {
+        scratch.length(self.part + 1)
+    }
+
     /// The next parcel of the part's stream, or `None` exactly where fewer than 40 bytes of the
     /// stream are left. What was read ahead must still stand in the stream, as it does where all
     /// calls are given one scratch. Where none is at hand, the stream's length is asked for, and as
@@ -71,7 +87,34 @@ impl<'a> PartReader<'a> {
         ensures asked { S.asked scratch.new ≡ S.asked scratch.old }
         ensures cause { HasCause (S.faults scratch.old) (S.faults scratch.new) result }
     {
-        self.fetch(scratch)?;
+        let end = self.needed_length(scratch)?;
+        self.next_before(end, scratch)
+    }
+
+    /// The next parcel, as `next` gives it, of a stream that has `end` bytes. Its length is not asked
+    /// for, so that one call of `stream_length` serves while the stream stays as it is. Where a parcel
+    /// is at hand, `end` is not looked at.
+    ///
+    /// # Errors
+    ///
+    /// `Failed`: the scratch refused a call. The reader stays as it was.
+    pub fn next_before<S: Scratch>(
+        &mut self,
+        end: u64,
+        scratch: &mut S,
+    ) -> Result<Option<Parcel>, Failed>
+        requires stream { HasStream (S.started scratch.old) self.old.part }
+        requires holds { IfSome (S.told scratch.old) (λ streams. StillHolds (part_stream streams self.old.part) self.old) }
+        requires end { IfSome (S.told scratch.old) (λ streams. self.old.held ≡ [] → end ≡ length (part_stream streams self.old.part)) }
+        ensures gives { IfSome (S.told scratch.old) (λ streams. GivesNext (part_stream streams self.old.part) self.old self.new result) }
+        ensures goes { GoesOn self.old self.new result }
+        ensures place { self.new.place < 2 ^ 64 }
+        ensures told { S.told scratch.new ≡ S.told scratch.old }
+        ensures started { S.started scratch.new ≡ S.started scratch.old }
+        ensures asked { S.asked scratch.new ≡ S.asked scratch.old }
+        ensures cause { HasCause (S.faults scratch.old) (S.faults scratch.new) result }
+    {
+        self.fetch(end, scratch)?;
         if self.from == self.to {
             return Ok(None);
         }
@@ -80,10 +123,28 @@ impl<'a> PartReader<'a> {
         Ok(Some(parcel))
     }
 
-    /// Reads on where no parcel is at hand. None is then only where the stream has no whole one left.
-    fn fetch<S: Scratch>(&mut self, scratch: &mut S) -> Result<(), Failed>
+    /// The length of the part's stream, where it takes a read to give the next parcel.
+    fn needed_length<S: Scratch>(&self, scratch: &mut S) -> Result<u64, Failed>
+        requires stream { HasStream (S.started scratch.old) self.now.part }
+        ensures length { IfSome (S.told scratch.old) (λ streams. IfOk result (λ n. self.now.held ≡ [] → n ≡ length (part_stream streams self.now.part))) }
+        ensures bounded { self.now.place < 2 ^ 64 }
+        ensures told { S.told scratch.new ≡ S.told scratch.old }
+        ensures started { S.started scratch.new ≡ S.started scratch.old }
+        ensures asked { S.asked scratch.new ≡ S.asked scratch.old }
+        ensures cause { HasCause (S.faults scratch.old) (S.faults scratch.new) result }
+    {
+        if self.from < self.to {
+            return Ok(0);
+        }
+        self.stream_length(scratch)
+    }
+
+    /// Reads on where no parcel is at hand, of a stream that has `end` bytes. None is then only where
+    /// the stream has no whole one left.
+    fn fetch<S: Scratch>(&mut self, end: u64, scratch: &mut S) -> Result<(), Failed>
         requires stream { HasStream (S.started scratch.old) self.old.part }
         requires holds { IfSome (S.told scratch.old) (λ streams. StillHolds (part_stream streams self.old.part) self.old) }
+        requires end { IfSome (S.told scratch.old) (λ streams. self.old.held ≡ [] → end ≡ length (part_stream streams self.old.part)) }
         ensures holds { IfSome (S.told scratch.old) (λ streams. StillHolds (part_stream streams self.old.part) self.new) }
         ensures none { IfSome (S.told scratch.old) (λ streams. OnOk result (self.new.held ≡ [] → length (part_stream streams self.old.part) < self.old.place + 40)) }
         ensures part { self.new.part ≡ self.old.part }
@@ -99,7 +160,7 @@ impl<'a> PartReader<'a> {
         if self.from < self.to {
             return Ok(());
         }
-        let size = read_pieces(scratch, self.part + 1, self.place, self.block)?;
+        let size = read_pieces(scratch, self.part + 1, self.place, end, self.block)?;
         self.from = 0;
         self.to = size;
         Ok(())
@@ -126,15 +187,17 @@ impl<'a> PartReader<'a> {
     }
 }
 
-/// Reads as many pieces of 40 bytes as a stream has from a place on and the block has room for, and
-/// answers how many bytes they have.
+/// Reads as many pieces of 40 bytes as a stream of `end` bytes has from a place on and the block has
+/// room for, and answers how many bytes they have.
 fn read_pieces<S: Scratch>(
     scratch: &mut S,
     stream: u32,
     place: u64,
+    end: u64,
     block: &mut [u8],
 ) -> Result<usize, Failed>
     requires stream { stream < S.started scratch.old }
+    requires end { IfSome (S.told scratch.old) (λ streams. end ≡ length (stream_of streams stream)) }
     requires room { 40 ≤ length block.old }
     ensures read { IfSome (S.told scratch.old) (λ streams. IfOk result (λ size. take size block.new ≡ take size (drop place (stream_of streams stream)))) }
     ensures none { IfSome (S.told scratch.old) (λ streams. IfOk result (λ size. size ≡ 0 → length (stream_of streams stream) < place + 40)) }
@@ -145,7 +208,7 @@ fn read_pieces<S: Scratch>(
     ensures asked { S.asked scratch.new ≡ S.asked scratch.old }
     ensures cause { HasCause (S.faults scratch.old) (S.faults scratch.new) result }
 {
-    let left = scratch.length(stream)?.saturating_sub(place);
+    let left = end.saturating_sub(place);
     let size = left.min(block.len() as u64) as usize / PIECE_SIZE * PIECE_SIZE;
     if size == 0 {
         return Ok(0);

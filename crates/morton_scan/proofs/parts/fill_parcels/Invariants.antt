@@ -1,5 +1,5 @@
--- The parcels so far were taken, the reader stands behind them, and the scratch is as it was.
-use Rattle.std.proofs.Common.{◌≡◌, ◌-◌, ◌^◌, ◌<◌, ◌≤◌}
+-- The parcels so far were taken, the reader stands behind them, the stream's length is known, and the scratch is as it was.
+use Rattle.std.proofs.Common.{◌≡◌, ◌-◌, ◌^◌, ◌<◌, ◌≤◌, length}
 use Rattle.std.specs.Prelude.{IfSome}
 use Rattle.bit_grid.specs.Touched.{AreTouched}
 use Rattle.tri_partition.specs.PartStreams.{part_stream}
@@ -18,6 +18,7 @@ invariant-loop-parcel g l =
     × (g.S.Scratch.started l.scratch ≡ g.S.Scratch.started l.fn.scratch)
     × (g.S.Scratch.asked l.scratch ≡ g.S.Scratch.asked l.fn.scratch)
     × (g.S.Scratch.faults l.fn.scratch ≤ g.S.Scratch.faults l.scratch)
+    × IfSome (g.S.Scratch.told l.fn.scratch) (λ streams. l.end ≡ length (part_stream streams l.part))
 
 abbrev pub decreases-loop-parcel : goal.decreases-loop-parcel
 decreases-loop-parcel g l = 2 ^ 64 - l.reader.place

@@ -3,7 +3,7 @@ use Rattle.std.proofs.Common.{◌≡◌, [], sym, ap, ◌∙◌}
 use Rattle.dev_traits.specs.declared.device.Failed.{Failed}
 use Rattle.tri_partition.proofs.Held.{nothing_between}
 use Rattle.tri_partition.proofs.NextParcels.{stays, gives_none, gives_some}
-use Rattle.tri_partition.proofs.reader.PartReader.next.Goals as goal
+use Rattle.tri_partition.proofs.reader.PartReader.next_before.Goals as goal
 
 pub returns-then-self-clause-gives : goal.returns-then-self-clause-gives
 returns-then-self-clause-gives g c =
