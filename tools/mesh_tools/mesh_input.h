@@ -243,13 +243,34 @@ static int is_binary_stl(uint64_t *triangles) {
     return memchr(in.bytes + in.at, 0, 84) != NULL;
 }
 
+/* Whether a line of the front of the input begins with one of these words. */
+static int has_line_of(const char *const *words) {
+    size_t there = look(4096);
+    const char *front = (const char *)in.bytes + in.at;
+    for (size_t at = 0; at < there; at++) {
+        if (at && front[at - 1] != '\n') continue;
+        for (const char *const *word = words; *word; word++)
+            if (there - at > strlen(*word) && !memcmp(front + at, *word, strlen(*word))) return 1;
+    }
+    return 0;
+}
+
+/* The kind of what is neither PLY nor binary STL, as far as its front tells. */
+static const char *other_kind(void) {
+    static const char *const obj[] = {"v ", "vn ", "vt ", "mtllib ", "o ", "f ", NULL}, *const stl[] = {"solid", NULL}, *const off[] = {"OFF", "COFF", "NOFF", NULL};
+    size_t there = look(4);
+    if (there == 4 && !memcmp(in.bytes + in.at, "glTF", 4)) return "glTF";
+    if (has_line_of(stl)) return "STL as text, or binary STL that was cut short";
+    if (has_line_of(off)) return "OFF";
+    return has_line_of(obj) ? "OBJ" : "neither PLY nor binary STL";
+}
+
 /* Ends where the input is of another kind. */
 __attribute__((noreturn)) static void refuse_kind(void) {
-    size_t there = look(4);
+    size_t there = look(2);
     const unsigned char *first = in.bytes + in.at;
-    if (there >= 2 && first[0] == 0x1f && first[1] == 0x8b) stop(REFUSED, "%s is packed by gzip: gzip -dc FILE | svo %s ..", in.name, tool_name);
-    if (there == 4 && !memcmp(first, "glTF", 4)) stop(REFUSED, "%s is glTF: assimp export FILE mesh.ply -fply", in.name);
-    stop(REFUSED, "%s is neither PLY nor binary STL: assimp export FILE mesh.ply -fply makes PLY of many kinds (docs/COOKBOOK.md)", in.name);
+    if (there == 2 && first[0] == 0x1f && first[1] == 0x8b) stop(REFUSED, "%s is packed by gzip: gzip -dc FILE | svo %s ..", in.name, tool_name);
+    stop(REFUSED, "%s is %s: assimp export FILE mesh.ply -fply makes PLY of many kinds (docs/COOKBOOK.md)", in.name, other_kind());
 }
 
 #endif
