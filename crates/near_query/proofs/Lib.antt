@@ -1,0 +1,12 @@
+mod ChildPlanes
+mod Codes
+mod Costs
+mod Covering
+mod Farther
+mod Halving
+mod HeapOrder
+mod Intervals
+mod Looping
+mod Seeing
+mod Trees
+mod UnderWay

@@ -1,0 +1,7 @@
+pub mod Distances
+pub mod Faults
+pub mod Frontiers
+pub mod Halves
+pub mod Nearest
+pub mod Nodes
+pub mod Queues

@@ -1,0 +1,17 @@
+//! The filled cube nearest to a point, found by a walk down the octree of a node file that reads the
+//! nearest node first (Hjaltason, Samet 1999).
+#![tactic(auto)]
+
+mod cells;
+mod gaps;
+mod measures;
+mod queues;
+mod searching;
+mod steps;
+mod walking;
+
+pub use cells::{NearCell, NearFault};
+pub use searching::{Search, near};
+
+#[cfg(test)]
+mod tests;
