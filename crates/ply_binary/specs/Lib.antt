@@ -1,0 +1,4 @@
+pub mod Values
+pub mod Bodies
+pub mod HeaderTexts
+pub mod BodyStates
