@@ -1,1 +1,3 @@
 pub mod BodySteps
+pub mod HeldBytes
+pub mod LineWords

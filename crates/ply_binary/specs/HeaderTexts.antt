@@ -39,20 +39,34 @@ ascii_line line = ascii_with line (behind_word (next_word (behind_word (next_wor
 -- what follows an accepted line: the body behind the header's last line, else the next line; behind a refused line all stays as it is
 abbrev pub behind_line : (Declared → List ℕ → List ℕ) → Declared → List (List ℕ) → Option PlyKind → List ℕ → List ℕ
 behind_line next d words (Some kind) behind = behind
-behind_line next d words None behind = if is_end d words then body_text d behind else next (after d words) behind
+behind_line next d words None behind = if is_end d words then body_text (after d words) behind else next (after d words) behind
 
 abbrev pub taken_line : (Declared → List ℕ → List ℕ) → Declared → List ℕ → List ℕ → List ℕ
 taken_line next d line behind = behind_line next d (line_words line) (first_broken (rules_of d (line_words line))) behind
 
--- a line of a header, of which `found` says whether its format line stands before: it stays, but for a binary format line;
--- behind another format line, and where no line is, all stays as it is
+-- a line as it is given, with its end; the line by which the header's rules judge; and whether the header's format line was
+pub record Shown : Type 0 where
+  pub text : List ℕ
+  pub line : List ℕ
+  pub found : Bool
+
+-- a line stays as it is, but for a binary format line; `None` at another format line. `found` says whether the format line was
+abbrev pub shown_line : Bool → List ℕ → List ℕ → Option Shown
+shown_line found line whole =
+    if found || not (is_format (line_words line)) then Some (record { text = whole; line = line; found = found }) else
+    if is_binary (line_words line) then Some (record { text = ascii_line line ++ drop (length line) whole; line = ascii_line line; found = true }) else
+    None
+
+-- a line and what follows it; behind a format line that is not binary all stays as it is
+abbrev pub shown_then : (Bool → Declared → List ℕ → List ℕ) → Declared → List ℕ → ℕ → Option Shown → List ℕ
+shown_then next d text size None = text
+shown_then next d text size (Some shown) = shown.text ++ taken_line (next shown.found) d shown.line (drop size text)
+
+-- where no line is, all stays as it is
 abbrev pub line_then : (Bool → Declared → List ℕ → List ℕ) → Bool → Declared → List ℕ → ℕ → Result (Option Piece) TextFault → List ℕ
 line_then next found d text size (Err fault) = text
 line_then next found d text size (Ok None) = text
-line_then next found d text size (Ok (Some line)) =
-    if found || not (is_format (line_words line.bytes)) then take size text ++ taken_line (next found) d line.bytes (drop size text) else
-    if is_binary (line_words line.bytes) then ascii_line line.bytes ++ drop (length line.bytes) (take size text) ++ taken_line (next true) d (ascii_line line.bytes) (drop size text) else
-    text
+line_then next found d text size (Ok (Some line)) = shown_then next d text size (shown_line found line.bytes (take size text))
 
 -- the lines of a header from a place on, at most so many, by the rules of headers
 unfoldable pub lines_then : ℕ → Bool → Declared → ℕ → List ℕ → List ℕ

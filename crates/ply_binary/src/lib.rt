@@ -3,5 +3,9 @@
 #![tactic(auto)]
 
 mod body;
+mod held;
+mod lines;
 mod rewriting;
 mod values;
+mod waiting;
+mod words;
