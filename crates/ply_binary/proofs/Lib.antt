@@ -1,3 +1,4 @@
 pub mod BodySteps
 pub mod HeldBytes
 pub mod LineWords
+pub mod HeaderSteps

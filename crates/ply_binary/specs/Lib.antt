@@ -4,3 +4,4 @@ pub mod HeaderTexts
 pub mod BodyStates
 pub mod HeldStates
 pub mod LineStates
+pub mod SourceStates

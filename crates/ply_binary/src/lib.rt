@@ -6,6 +6,9 @@ mod body;
 mod held;
 mod lines;
 mod rewriting;
+mod source;
 mod values;
 mod waiting;
 mod words;
+
+pub use source::AsciiSource;

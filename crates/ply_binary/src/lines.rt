@@ -1,10 +1,10 @@
 //! The lines of a header, as they are given.
 
-ghost use Rattle.std.specs.Prelude.{◌≡◌, ◌+◌, ◌-◌, ◌^◌, ◌≤◌, ◌<◌, ◌++◌, ◌∷◌, ℕ, List, Bool, true, false, length, take, drop, MatchOption, Option, Some, None};
+ghost use Rattle.std.specs.Prelude.{◌≡◌, ◌+◌, ◌-◌, ◌^◌, ◌≤◌, ◌<◌, ◌++◌, ◌∷◌, ℕ, List, Bool, true, false, length, take, drop, MatchOption, IfSome, min, Option, Some, None};
 ghost use Rattle.ply_text.specs.NextPieces.{without_return, line_of};
 ghost use Rattle.ply_reader.specs.LineWords.{next_word, words_of, line_words};
 ghost use Rattle.ply_binary.specs.HeaderTexts.{is_binary, behind_word, shown_line};
-ghost use Rattle.ply_binary.specs.LineStates.{IsFormat, shown_of};
+ghost use Rattle.ply_binary.specs.LineStates.{IsFormat, IsLong, shown_of};
 
 use crate::waiting::Waiting;
 use crate::words::next_word;
@@ -62,6 +62,13 @@ pub(crate) fn line_end(bytes: &[u8], size: usize) -> usize
     }
 }
 
+/// How many bytes a line of that size takes with its LF, of so many held bytes.
+pub(crate) fn whole_size(size: usize, held: usize) -> usize
+    ensures { result ≡ min (size + 1) held }
+{
+    if size < held { size + 1 } else { held }
+}
+
 /// What stands behind the word `binary_little_endian`, where the words of a text are this one and `1.0`.
 fn binary_tail(text: &[u8]) -> Option<&[u8]>
     ensures { (word : List ℕ) → MatchOption result (is_binary (word ∷ words_of 5 text.now) ≡ false)
@@ -104,7 +111,9 @@ fn format_of(line: &[u8]) -> Format<'_>
 pub(crate) fn show_line(found: bool, whole: &[u8], end: usize) -> Option<ShownLine>
     requires end { end ≤ length whole.now }
     requires short { length whole.now ≤ 1040 }
-    ensures { shown_of result ≡ shown_line found (take end whole.now) whole.now }
+    requires some { 0 < length whole.now }
+    ensures shown { shown_of result ≡ shown_line found (take end whole.now) whole.now }
+    ensures long { IfSome result (IsLong (length whole.now)) }
 {
     let format = if found {
         Format::Unsaid
