@@ -1,5 +1,5 @@
 -- What a source of rewritten text is between calls, and what a call does to it.
-use Rattle.std.specs.Prelude.{◌≡◌, ℕ, ◌<◌, ◌⊎◌, List, [], ◌++◌, length, Option, None, Some, ⊤}
+use Rattle.std.specs.Prelude.{◌≡◌, ℕ, ◌<◌, ◌≤◌, ◌⊎◌, List, [], ◌++◌, length, Option, None, Some, ⊤}
 use Rattle.std.specs.Option.{option_map}
 use Rattle.dev_traits.specs.declared.device.ByteSource.{Ghosts}
 use Rattle.ply_reader.specs.Declarations.{Declared, declared}
@@ -29,6 +29,10 @@ IsBehindHead Over = ⊤
 -- the first line is seen: its LF is held, or it is too long, or nothing follows what is held
 abbrev pub IsSeen : ℕ → List ℕ → List ℕ → Type 0
 IsSeen size bytes more = (size < length bytes) ⊎ ((1024 < size) ⊎ (more ≡ []))
+
+-- the next value is held, or nothing follows what is held
+abbrev pub IsHeld : List ℕ → List ℕ → Type 0
+IsHeld bytes more = (8 ≤ length bytes) ⊎ (more ≡ [])
 
 module _ {I : Type 0} {g : Ghosts I} where
   -- the text that is still to be given, by the bytes that the input has still to give

@@ -1,6 +1,6 @@
 //! Bytes that were read and not yet passed.
 
-ghost use Rattle.std.specs.Prelude.{◌≡◌, ◌+◌, ◌-◌, ◌≤◌, ◌<◌, ◌⊎◌, ◌++◌, MatchBool, MatchOption, IfOk, ℕ, List, length, take, drop, not, true, false};
+ghost use Rattle.std.specs.Prelude.{◌≡◌, min, ◌+◌, ◌-◌, ◌≤◌, ◌<◌, ◌⊎◌, ◌++◌, MatchBool, MatchOption, IfOk, ℕ, List, length, take, drop, not, true, false};
 ghost use Rattle.std.specs.List.{prefix_len};
 ghost use Rattle.std.specs.Io.KnownBytes.{IsAtEnd};
 ghost use Rattle.dev_traits.specs.Contents.{TakesFront};
@@ -89,6 +89,43 @@ impl<'a, I: ByteSource> Held<'a, I> {
         ensures { Passes count self.old self.new }
     {
         self.from += count;
+    }
+
+    /// Reads past what is held, which is nothing.
+    pub(crate) fn read(&mut self, into: &mut [u8]) -> Result<usize, Failed>
+        requires { 0 < length into.old }
+        ensures bound { IfOk result (λ n. n ≤ length into.old) }
+        ensures keeps { Keeps self.old self.new }
+        ensures held { held self.new ≡ held self.old }
+        ensures bytes { TakesFront (I.rest self.old.input.now) (I.rest self.new.input.now) into.new result }
+        ensures cause { HasCause (I.faults self.old.input.now) (I.faults self.new.input.now) result }
+    {
+        self.input.read(into)
+    }
+
+    /// Gives the front of the held bytes, as many as there is room for.
+    pub(crate) fn give(&mut self, into: &mut [u8]) -> usize
+        requires { 0 < length into.old }
+        ensures bound { result ≤ length into.old }
+        ensures text { held self.old ≡ take result into.new ++ held self.new }
+        ensures keeps { Keeps self.old self.new }
+        ensures input { self.new.input.now ≡ self.old.input.now }
+        ensures end { result ≡ 0 → held self.old ≡ [] }
+    {
+        let count = self.copy_front(into);
+        self.pass(count);
+        count
+    }
+
+    fn copy_front(&self, into: &mut [u8]) -> usize
+        ensures bound { result ≤ length into.old }
+        ensures count { result ≡ min (length (held self.now)) (length into.old) }
+        ensures text { take result into.new ≡ take result (held self.now) }
+    {
+        let bytes = &self.block[self.from..self.to];
+        let count = bytes.len().min(into.len());
+        into[..count].copy_from_slice(&bytes[..count]);
+        count
     }
 
     /// Moves the held bytes to the block's front, so that the next read has the most room.

@@ -1,6 +1,6 @@
 //! A part of a binary body, rewritten.
 
-ghost use Rattle.std.specs.Prelude.{◌≡◌, ◌+◌, ◌≤◌, ◌<◌, ◌++◌, ℕ, List, length, take, drop};
+ghost use Rattle.std.specs.Prelude.{◌≡◌, ◌+◌, ◌*◌, ◌≤◌, ◌<◌, ◌++◌, ℕ, List, length, take, drop};
 ghost use Rattle.ply_reader.specs.Declarations.{declared};
 ghost use Rattle.ply_binary.specs.Values.{size_of, number_of, token_of};
 ghost use Rattle.ply_binary.specs.BodyStates.{IsIn, IsAt, Halts, body_left, left_behind, passed, is_last, is_coordinate_kind};
@@ -68,6 +68,9 @@ pub(crate) fn rewrite(body: Body, header: &Header, bytes: &[u8], into: &mut [u8]
     ensures inside { IsIn (declared header.now) result.body }
     ensures left { (behind : List ℕ) → body_left (declared header.now) body (bytes.now ++ behind)
         ≡ take result.made into.new ++ left_behind result.halt (declared header.now) result.body (drop result.used bytes.now ++ behind) }
+    ensures grew { result.used ≤ 8 * result.made }
+    ensures filled { result.halt ≡ Halt.Filled → length into.new < result.made + 24 }
+    ensures over { result.halt ≡ Halt.Over → 0 < result.made }
     ensures halt { Halts result.halt (body_left (declared header.now) result.body) (drop result.used bytes.now) }
 {
     let mut body = body;

@@ -1,6 +1,6 @@
 //! A source that gives a mesh text as ASCII.
 
-ghost use Rattle.std.specs.Prelude.{◌≡◌, ◌≢◌, ◌+◌, ◌-◌, ◌^◌, ◌≤◌, ◌<◌, ◌++◌, ℕ, List, [], length, take, IfOk, MatchResult, Result, Ok, Err, Option, Some, true, false};
+ghost use Rattle.std.specs.Prelude.{◌≡◌, ◌≢◌, ◌*◌, ◌+◌, ◌-◌, ◌^◌, ◌≤◌, ◌<◌, ◌++◌, ℕ, List, [], length, take, IfOk, MatchResult, Result, Ok, Err, Option, Some, true, false};
 ghost use Rattle.std.specs.List.{prefix_len};
 ghost use Rattle.std.specs.Option.{option_map};
 ghost use Rattle.std.specs.Io.KnownBytes.{IsAtEnd};
@@ -85,7 +85,7 @@ impl<'a, I: ByteSource> AsciiSource<'a, I> {
     ghost use Rattle.ply_binary.specs.HeaderTexts.{ascii, header_left, taken_line};
     ghost use Rattle.ply_binary.specs.BodyStates.{body_left, left_behind, Halts};
     ghost use Rattle.ply_binary.specs.LineStates.{IsShown, IsLong};
-    ghost use Rattle.ply_binary.specs.SourceStates.{text_behind, source_rest, IsBehindHead, IsSeen, Moves};
+    ghost use Rattle.ply_binary.specs.SourceStates.{text_behind, source_rest, IsBehindHead, IsSeen, IsHeld, Moves};
 
     /// The text of the input, which is read through the block.
     #[tactic(auto, unfolding(crate::specs::HeaderTexts::ascii))]
@@ -144,5 +144,156 @@ impl<'a, I: ByteSource> AsciiSource<'a, I> {
         self.body = Body::new();
         self.held.pass(whole);
         self.place += whole as u64;
+    }
+
+    /// Makes the next line of the header wait.
+    fn next_line(&mut self, found: bool) -> Result<(), Failed>
+        requires stage { self.old.stage ≡ Stage.Head found }
+        requires empty { self.old.text ≡ [] }
+        ensures moves { Moves self.old self.new [] }
+        ensures cause { HasCause (I.faults self.old.held.input.now) (I.faults self.new.held.input.now) result }
+        ensures ready { IfOk result (λ _. self.new.text ≡ [] → IsBehindHead self.new.stage) }
+    {
+        let size = self.held.hold_line()?;
+        self.take_line(found, size);
+        Ok(())
+    }
+
+    /// Makes text wait, where lines of the header are to come and none waits.
+    fn prepare(&mut self) -> Result<(), Failed>
+        ensures moves { Moves self.old self.new [] }
+        ensures cause { HasCause (I.faults self.old.held.input.now) (I.faults self.new.held.input.now) result }
+        ensures ready { IfOk result (λ _. self.new.text ≡ [] → IsBehindHead self.new.stage) }
+    {
+        if !self.text.text().is_empty() {
+            return Ok(());
+        }
+        match self.stage {
+            Stage::Head(found) => self.next_line(found),
+            Stage::Values | Stage::Plain | Stage::Over => Ok(()),
+        }
+    }
+
+    /// The held values, rewritten at the front of `into`.
+    fn rewritten(&self, into: &mut [u8]) -> Done
+        ensures used { result.used ≤ length (held self.now.held) }
+        ensures made { result.made ≤ length into.new }
+        ensures size { length into.new ≡ length into.old }
+        ensures inside { IsIn (declared self.now.header) result.body }
+        ensures left { (more : List ℕ) → body_left (declared self.now.header) self.now.body (held self.now.held ++ more)
+            ≡ take result.made into.new ++ left_behind result.halt (declared self.now.header) result.body (drop result.used (held self.now.held) ++ more) }
+        ensures grew { result.used ≤ 8 * result.made }
+        ensures filled { result.halt ≡ Halt.Filled → length into.new < result.made + 24 }
+        ensures over { result.halt ≡ Halt.Over → 0 < result.made }
+        ensures halt { Halts result.halt (body_left (declared self.now.header) result.body) (drop result.used (held self.now.held)) }
+    {
+        rewrite(self.body, &self.header, self.held.bytes(), into)
+    }
+
+    /// Gives the tokens of held values, and what ends the text where no token is given.
+    fn give_held_values(&mut self, into: &mut [u8]) -> usize
+        requires stage { self.old.stage ≡ Stage.Values }
+        requires empty { self.old.text ≡ [] }
+        requires room { 24 ≤ length into.old }
+        ensures bound { result ≤ length into.old }
+        ensures size { length into.new ≡ length into.old }
+        ensures keeps { Keeps self.old.held self.new.held }
+        ensures input { self.new.held.input.now ≡ self.old.held.input.now }
+        ensures text { (more : List ℕ) → IsHeld (held self.old.held) more
+            → text_behind self.old more ≡ take result into.new ++ text_behind self.new more }
+        ensures empty { self.new.text ≡ [] }
+        ensures end { result ≡ 0 → self.new.stage ≡ Stage.Over }
+    {
+        let done = self.rewritten(into);
+        self.body = done.body;
+        self.held.pass(done.used);
+        if done.made > 0 {
+            if done.halt == Halt::Over {
+                self.stage = Stage::Over;
+            }
+            return done.made;
+        }
+        self.stage = Stage::Over;
+        if done.halt == Halt::Ended && self.held.len() > 0 {
+            into[0] = b'x';
+            return 1;
+        }
+        0
+    }
+
+    /// Gives the tokens of values, as many as there is room for.
+    fn give_tokens(&mut self, into: &mut [u8]) -> Result<usize, Failed>
+        requires stage { self.old.stage ≡ Stage.Values }
+        requires empty { self.old.text ≡ [] }
+        requires room { 24 ≤ length into.old }
+        ensures bound { GivesAtMost (length into.old) result }
+        ensures size { length into.new ≡ length into.old }
+        ensures moves { MatchResult result (λ n. Moves self.old self.new (take n into.new)) (λ _. Moves self.old self.new []) }
+        ensures cause { HasCause (I.faults self.old.held.input.now) (I.faults self.new.held.input.now) result }
+        ensures end { IfOk result (λ n. (self.new.text ≡ []) × (n ≡ 0 → self.new.stage ≡ Stage.Over)) }
+    {
+        self.held.hold_value()?;
+        Ok(self.give_held_values(into))
+    }
+
+    /// Gives a front of the tokens of values.
+    fn give_values(&mut self, into: &mut [u8]) -> Result<usize, Failed>
+        requires stage { self.old.stage ≡ Stage.Values }
+        requires empty { self.old.text ≡ [] }
+        requires room { 0 < length into.old }
+        ensures bound { GivesAtMost (length into.old) result }
+        ensures moves { MatchResult result (λ n. Moves self.old self.new (take n into.new)) (λ _. Moves self.old self.new []) }
+        ensures cause { HasCause (I.faults self.old.held.input.now) (I.faults self.new.held.input.now) result }
+        ensures end { IfOk result (λ n. n ≡ 0 → IsAtEnd (source_rest self.new)) }
+    {
+        if into.len() >= TOKEN_ROOM {
+            return self.give_tokens(into);
+        }
+        let mut room = [0; TOKEN_ROOM];
+        let made = self.give_tokens(&mut room)?;
+        self.text = Waiting::of(&room[..made]);
+        Ok(self.text.give(into))
+    }
+
+    /// Gives text that stays as it is: what is held of it, else straight from the input.
+    fn give_plain(&mut self, into: &mut [u8]) -> Result<usize, Failed>
+        requires stage { self.old.stage ≡ Stage.Plain }
+        requires empty { self.old.text ≡ [] }
+        requires room { 0 < length into.old }
+        ensures bound { GivesAtMost (length into.old) result }
+        ensures moves { MatchResult result (λ n. Moves self.old self.new (take n into.new)) (λ _. Moves self.old self.new []) }
+        ensures cause { HasCause (I.faults self.old.held.input.now) (I.faults self.new.held.input.now) result }
+        ensures end { IfOk result (λ n. n ≡ 0 → IsAtEnd (source_rest self.new)) }
+    {
+        if self.held.len() > 0 {
+            return Ok(self.held.give(into));
+        }
+        self.held.read(into)
+    }
+}
+
+impl<I: ByteSource> ByteSource for AsciiSource<'_, I> {
+    ghost use Rattle.ply_binary.specs.SourceStates.{source_rest, Moves};
+
+    ghost rest = { λ s. source_rest s };
+
+    ghost faults = { λ s. I.faults s.held.input.now };
+
+    fn read(&mut self, into: &mut [u8]) -> Result<usize, Failed>
+        requires { 0 < length into.old }
+        ensures bound { GivesAtMost (length into.old) result }
+        ensures bytes { TakesFront (source_rest self.old) (source_rest self.new) into.new result }
+        ensures cause { HasCause (I.faults self.old.held.input.now) (I.faults self.new.held.input.now) result }
+        ensures moves { MatchResult result (λ n. Moves self.old self.new (take n into.new)) (λ _. Moves self.old self.new []) }
+    {
+        self.prepare()?;
+        if !self.text.text().is_empty() {
+            return Ok(self.text.give(into));
+        }
+        match self.stage {
+            Stage::Values => self.give_values(into),
+            Stage::Plain => self.give_plain(into),
+            Stage::Head(_) | Stage::Over => Ok(0),
+        }
     }
 }

@@ -20,6 +20,7 @@ values-preserved c =
       inside = subst (IsIn d) (sym place) (passed_in d settled due.kind (number_of due.scalar value) c.settle.ensures.inside c.due-due.ensures.here);
       used = fits;
       made = omega (arith, c.take_value-taken.ensures.made, c.take_value-taken.ensures.size, c.if-into-made-lt-TOKEN_ROOM.false, c.values.invariant.made);
+      grew = omega (arith, c.values.invariant.grew, c.take_value-taken.ensures.made, c.size_of-size.ensures.most);
       size = c.take_value-taken.ensures.size ∙ c.values.invariant.size;
       left = λ behind.
           let rest = drop (used + size) bytes ++ behind in

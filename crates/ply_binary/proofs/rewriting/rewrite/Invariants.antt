@@ -1,4 +1,4 @@
-use Rattle.std.proofs.Common.{◌≡◌, ◌-◌, ◌≤◌, ◌++◌, ℕ, List, length, take, drop}
+use Rattle.std.proofs.Common.{◌≡◌, ◌-◌, ◌≤◌, ◌*◌, ◌++◌, ℕ, List, length, take, drop}
 use Rattle.ply_reader.specs.Declarations.{declared}
 use Rattle.ply_binary.specs.BodyStates.{IsIn, body_left}
 use Rattle.ply_binary.proofs.rewriting.rewrite.Given as goal
@@ -9,6 +9,7 @@ invariant-values l = record {
   inside : IsIn (declared l.header) l.body;
   used : l.used ≤ length l.bytes;
   made : l.made ≤ length l.into;
+  grew : l.used ≤ 8 * l.made;
   size : length l.into ≡ length l.initial.into;
   left : (behind : List ℕ) → body_left (declared l.header) l.initial.body (l.bytes ++ behind) ≡ take l.made l.into ++ body_left (declared l.header) l.body (drop l.used l.bytes ++ behind);
 }
