@@ -2,3 +2,4 @@ pub mod BodySteps
 pub mod HeldBytes
 pub mod LineWords
 pub mod HeaderSteps
+pub mod SourceMoves

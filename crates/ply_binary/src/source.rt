@@ -1,6 +1,6 @@
 //! A source that gives a mesh text as ASCII.
 
-ghost use Rattle.std.specs.Prelude.{◌≡◌, ◌≢◌, ◌*◌, ◌+◌, ◌-◌, ◌^◌, ◌≤◌, ◌<◌, ◌++◌, ℕ, List, [], length, take, IfOk, MatchResult, Result, Ok, Err, Option, Some, true, false};
+ghost use Rattle.std.specs.Prelude.{◌≡◌, ◌≢◌, ◌*◌, ◌+◌, ◌-◌, ◌^◌, ◌≤◌, ◌<◌, ◌++◌, ℕ, List, [], length, take, IfOk, MatchBool, MatchResult, Result, Ok, Err, Option, Some, true, false};
 ghost use Rattle.std.specs.List.{prefix_len};
 ghost use Rattle.std.specs.Option.{option_map};
 ghost use Rattle.std.specs.Io.KnownBytes.{IsAtEnd};
@@ -77,6 +77,13 @@ fn is_line(held: usize, size: usize, place: u64) -> bool
     let room = PLACES - place;
     let size = size as u64;
     held > 0 && size.min(room) <= LINE_SIZE && (size < room || held as u64 <= room)
+}
+
+/// Whether no value of a body is left.
+fn is_ended(halt: Halt) -> bool
+    ensures { MatchBool result (halt ≡ Halt.Ended) (halt ≢ Halt.Ended) }
+{
+    matches!(halt, Halt::Ended)
 }
 
 impl<'a, I: ByteSource> AsciiSource<'a, I> {
@@ -214,7 +221,7 @@ impl<'a, I: ByteSource> AsciiSource<'a, I> {
             return done.made;
         }
         self.stage = Stage::Over;
-        if done.halt == Halt::Ended && self.held.len() > 0 {
+        if is_ended(done.halt) && self.held.len() > 0 {
             into[0] = b'x';
             return 1;
         }
