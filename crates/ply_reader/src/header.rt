@@ -100,6 +100,14 @@ impl Header {
         self.elements.as_slice()[at]
     }
 
+    /// How many properties were declared, over all elements: at most 128.
+    pub fn properties(&self) -> usize
+        ensures value { result ≡ length (declared self.now).properties }
+        ensures most { result ≤ 128 }
+    {
+        self.properties.as_slice().len()
+    }
+
     /// The property of a number, counted from 0 over the whole header.
     pub fn property(&self, at: usize) -> Property
         requires { at < length (declared self.now).properties }

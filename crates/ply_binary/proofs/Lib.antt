@@ -1,0 +1,5 @@
+pub mod BodySteps
+pub mod HeldBytes
+pub mod LineWords
+pub mod HeaderSteps
+pub mod SourceMoves
