@@ -7,8 +7,8 @@ ghost use Rattle.octree_specs.specs.OctreeFile.{image_of};
 ghost use Rattle.node_file.specs.Waiting.{GrewByFront};
 ghost use Rattle.level_queues.specs.Fronts.{Ascend};
 
-use level_queues::{LevelQueues, ancestor, turning_height};
 use dev_traits::{ByteSink, Failed, MemSink, PartFail};
+use level_queues::{LevelQueues, ancestor, turning_height};
 use node_file::{NodeWriter, Totals, header_bytes, trailer_bytes};
 use room_plan::{QueueEntry, Queues};
 use std::alloc::{AllocError, Global};

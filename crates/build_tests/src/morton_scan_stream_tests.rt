@@ -3,8 +3,8 @@
 ghost use Rattle.std.specs.Prelude.{◌≡◌, ◌<◌};
 ghost use Rattle.tri_partition.specs.PartStreams.{HasStream};
 
-use morton_scan::fill_part;
 use dev_traits::{Failed, MemScratch, PartFail, Scratch};
+use morton_scan::fill_part;
 use std::marker::Brand;
 use std::sync::ledger::{Blank, Ledger};
 use svo_base::{Grid, Steps};

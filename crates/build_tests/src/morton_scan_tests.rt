@@ -2,8 +2,8 @@
 
 ghost use Rattle.std.specs.Prelude.{◌≡◌, ◌^◌, ◌<◌, ◌≤◌, unsigned_abs, IfSome};
 
-use morton_scan::{FilledCell, PartSlots, fill_triangle, next_code};
 use morton_code::cube_of;
+use morton_scan::{FilledCell, PartSlots, fill_triangle, next_code};
 use std::marker::Brand;
 use std::sync::ledger::{Blank, Ledger};
 use svo_base::{Grid, Point, Steps, Triangle};

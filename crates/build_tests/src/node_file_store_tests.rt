@@ -2,8 +2,8 @@
 
 ghost use Rattle.std.specs.Prelude.{◌≡◌, ◌<◌, ◌≤◌, ◌*◌, length};
 
-use node_file::{LoadFault, Nodes, Records};
 use dev_traits::{MemStore, NodeStore};
+use node_file::{LoadFault, Nodes, Records};
 use std::alloc::{AllocError, Global};
 use std::marker::Brand;
 use std::sync::ledger::{Blank, Ledger};

@@ -8,11 +8,11 @@ ghost use Rattle.std.specs.Io.KnownBytes.{append_known};
 ghost use Rattle.node_file.specs.Waiting.{GrewByFront};
 ghost use Rattle.svo_base.specs.GridShape.{IsGrid};
 
+use dev_traits::{ByteSink, Failed, MemSink, PartFail};
 use node_file::{
     NodeWriter, Records, Totals, header_bytes, read_format, read_header, read_trailer,
     trailer_bytes,
 };
-use dev_traits::{ByteSink, Failed, MemSink, PartFail};
 use std::marker::Brand;
 use std::sync::ledger::{Blank, Ledger};
 use svo_base::{Grid, Steps};

@@ -3,10 +3,10 @@
 ghost use Rattle.std.specs.Prelude.{◌≡◌, ◌^◌, ◌<◌, ◌≤◌, unsigned_abs};
 ghost use Rattle.octree_specs.specs.Meeting.{HasPlanes};
 
-use tri_cube::{Verdict, overlaps, overlaps_by_candidates, why};
 use std::marker::Brand;
 use std::sync::ledger::{Blank, Ledger};
 use svo_base::{Cube, Point, Steps, Triangle};
+use tri_cube::{Verdict, overlaps, overlaps_by_candidates, why};
 
 /// The corners of a triangle.
 type Corners = [[i32; 3]; 3];

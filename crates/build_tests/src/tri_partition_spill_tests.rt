@@ -3,10 +3,10 @@
 ghost use Rattle.std.specs.Prelude.{◌≡◌, ◌^◌, ◌<◌, ◌≤◌, [], ◌∷◌, None, length, OnOk, IfSome};
 ghost use Rattle.tri_partition.specs.Laws.{IsPartitioned};
 
-use tri_partition::{PartReader, Partition};
 use dev_traits::{Failed, MemScratch, PartFail, Scratch};
 use room_plan::Parcel;
 use svo_base::{Grid, Point, Triangle};
+use tri_partition::{PartReader, Partition};
 
 const NO_PARCEL: Parcel = Parcel {
     corners: [0; 9],

@@ -3,8 +3,8 @@
 ghost use Rattle.std.specs.Prelude.{◌≡◌, ◌<◌, ◌≤◌, None, length, IfOk, OnOk};
 ghost use Rattle.tri_partition.specs.PartStreams.{HasStream};
 
-use tri_partition::PartReader;
 use dev_traits::{Failed, MemScratch, PartFail, Scratch};
+use tri_partition::PartReader;
 
 /// What was read of a part.
 #[derive(Clone, Copy, Debug, PartialEq, Eq)]

@@ -2,11 +2,11 @@
 
 ghost use Rattle.std.specs.Prelude.{◌≡◌, ◌<◌, ◌≤◌, None, true, false, length, OnOk};
 
-use vertex_spool::Spool;
 use dev_traits::{Asking, Failed, Scratch};
 use room_plan::VertexBlock;
 use std::alloc::Global;
 use svo_base::Point;
+use vertex_spool::Spool;
 
 /// One stream, whose reads and appends are counted. The call with the number `refused` is refused.
 #[derive(Drop)]

@@ -4,8 +4,8 @@ ghost use Rattle.std.specs.Prelude.{◌≡◌, ◌<◌, ◌≤◌, Err};
 ghost use Rattle.dev_traits.specs.Faults.{Rose};
 ghost use Rattle.node_check.specs.declared.checking.CheckFault.TheVariants.{Failed};
 
-use node_check::{CheckFault, check};
 use dev_traits::{MemStore, NodeStore};
+use node_check::{CheckFault, check};
 use node_file::{Frame, LoadFault, Nodes, Totals};
 use std::alloc::{AllocError, Global};
 use std::marker::Brand;

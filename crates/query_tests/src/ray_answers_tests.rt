@@ -2,11 +2,11 @@
 
 ghost use Rattle.std.specs.Prelude.{◌≡◌, ◌<◌};
 
-use ray_answers::RayStop::{BadRay, LineTooLong, Range, ReadFault, Walk, WriteFault};
-use ray_answers::{RayStop, answer_rays, answers_are_one, fronts_are_of_all_answers};
 use dev_traits::{ByteSink, ByteSource, MemSink, MemSource, MemStore, NodeStore, PartFail};
 use node_check::WalkFault;
 use node_file::{Frame, Nodes};
+use ray_answers::RayStop::{BadRay, LineTooLong, Range, ReadFault, Walk, WriteFault};
+use ray_answers::{RayStop, answer_rays, answers_are_one, fronts_are_of_all_answers};
 use std::alloc::{AllocError, Global};
 use std::marker::Brand;
 use std::sync::ledger::{Blank, Ledger};

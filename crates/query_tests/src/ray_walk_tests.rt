@@ -3,11 +3,11 @@
 
 ghost use Rattle.std.specs.Prelude.{◌≡◌, ◌<◌, ◌≤◌, ◌^◌, length};
 
-use ray_walk::{Hit, cast};
 use morton_code::cube_of;
 use node_check::WalkFault;
 use node_file::LentWords;
 use ray_fraction::{Ray, compare, entry};
+use ray_walk::{Hit, cast};
 use std::alloc::{AllocError, Global};
 use std::cmp::Ordering;
 use std::marker::Brand;

@@ -2,10 +2,10 @@
 
 ghost use Rattle.std.specs.Prelude.{◌≡◌, ◌<◌, ◌≤◌, ◌^◌, length};
 
-use slice_view::{AnswerStop, Axis, slice};
 use dev_traits::{MemSink, PartFail};
 use node_check::{WalkFault, has};
 use node_file::LentWords;
+use slice_view::{AnswerStop, Axis, slice};
 use std::alloc::{AllocError, Global};
 use std::marker::Brand;
 use std::sync::ledger::{Blank, Ledger};

@@ -3,13 +3,13 @@
 
 ghost use Rattle.std.specs.Prelude.{◌≡◌, ◌<◌, ◌≤◌, ◌^◌, length};
 
-use slice_view::CameraKind::{self, Parallel, Pinhole};
-use slice_view::{AnswerStop, Camera, view};
 use dev_traits::{MemSink, PartFail};
 use morton_code::cube_of;
 use node_check::WalkFault;
 use node_file::LentWords;
 use ray_fraction::{Ray, entry};
+use slice_view::CameraKind::{self, Parallel, Pinhole};
+use slice_view::{AnswerStop, Camera, view};
 use std::alloc::{AllocError, Global};
 use std::marker::Brand;
 use std::sync::ledger::{Blank, Ledger};
