@@ -49,9 +49,12 @@ say_said() {
 
 watch_program() {
     (: <&0) 2>/dev/null || exec </dev/null
-    room=$(mktemp -d "${TMPDIR:-/tmp}/svo.XXXXXX") || refuse "no file can be made in ${TMPDIR:-/tmp}: make space there, or name another folder by TMPDIR"
     begin_output
-    mkfifo "$room/alive" && : >"$room/said" || refuse "no file can be made in $room"
+    room=$(mktemp -d "${TMPDIR:-/tmp}/svo.XXXXXX") && mkfifo "$room/alive" && : >"$room/said" || {
+        end_output 9
+        rm -rf "$room"
+        refuse "no file can be made in ${TMPDIR:-/tmp}: make space there, or name another folder by TMPDIR"
+    }
     exec 4>"$room/said" 5<"$room/said" 6<>"$room/alive" 7<"$room/alive"
     rm -rf "$room"
     caught=
