@@ -1,6 +1,6 @@
 //! The whole build.
 
-ghost use Rattle.std.specs.Prelude.{◌≡◌, ◌+◌, ◌-◌, ◌*◌, ◌^◌, ◌≤◌, ◌<◌, None, Some, Err, length, IfErr};
+ghost use Rattle.std.specs.Prelude.{◌≡◌, ◌+◌, ◌-◌, ◌*◌, ◌^◌, ◌≤◌, ◌<◌, None, Some, Err, IfErr};
 ghost use Rattle.dev_traits.specs.Change.{change_of, scratch_change_of};
 ghost use Rattle.dev_traits.specs.Faults.{Rose};
 ghost use Rattle.dev_traits.specs.Streams.{asked_of};
@@ -15,7 +15,7 @@ use crate::nodes::write_nodes;
 use crate::parts::part_count;
 use crate::spilling::spill;
 use dev_traits::{ByteSink, ByteSource, Scratch};
-use room_plan::{Parcel, QueueEntry, Room, VertexBlock};
+use room_plan::Room;
 use std::sync::ledger::Ledger;
 use svo_base::Steps;
 
@@ -62,51 +62,27 @@ pub fn build_core<I: ByteSource, S: Scratch, O: ByteSink, L: Ledger, T: Ledger>(
     ensures spill_cause { result ≡ Err BuildFault.ScratchFault → Rose (S.faults scratch.old) (S.faults scratch.new) }
     ensures put_cause { result ≡ Err BuildFault.WriteFault → Rose (O.faults out.old) (O.faults out.new) }
 {
-    let parts = part_count(job.plan.split);
-    if scratch.start(place, 1 + parts).is_err() {
+    if scratch
+        .start(place, 1 + part_count(job.plan.split))
+        .is_err()
+    {
         return Err(BuildFault::ScratchFault);
     }
-    build_parts(
-        job,
-        parts,
-        input,
-        scratch,
-        out,
-        room.block_a.as_mut_slice(),
-        room.block_b.as_mut_slice(),
-        room.window.as_mut_slice(),
-        room.pool.as_mut_slice(),
-        room.queues.as_mut_slice(),
-        room.slots.as_mut_slice(),
-        moves,
-        tests,
-    )
+    build_parts(job, input, scratch, out, room, moves, tests)
 }
 
-/// The build on a scratch that was started, in lent buffers.
+/// The build on a scratch that was started.
 fn build_parts<I: ByteSource, S: Scratch, O: ByteSink, L: Ledger, T: Ledger>(
     job: &Job,
-    parts: u32,
     input: &mut I,
     scratch: &mut S,
     out: &mut O,
-    block_a: &mut [u8],
-    block_b: &mut [u8],
-    window: &mut [VertexBlock],
-    pool: &mut [Parcel],
-    queues: &mut [QueueEntry],
-    slots: &mut [u32],
+    room: &mut Room,
     moves: &mut Steps<L>,
     tests: &mut Steps<T>,
 ) -> Result<Built, BuildFault>
     requires job { IsJob job.now }
-    requires parts { parts ≡ 8 ^ job.now.plan.split }
-    requires block_a { length block_a.old ≡ 4096 }
-    requires block_b { length block_b.old ≡ 4096 }
-    requires window { length window.old ≡ job.now.plan.window }
-    requires pool { length pool.old ≡ job.now.plan.pool }
-    requires queues { length queues.old ≡ 8 * job.now.plan.depth }
-    requires slots { length slots.old ≡ job.now.plan.slots }
+    requires room { HasRoomOf job.now.plan room.old }
     requires started { S.started scratch.old ≡ 1 + 8 ^ job.now.plan.split }
     requires empty { AreEmpty (1 + 8 ^ job.now.plan.split) (S.told scratch.old) }
     ensures builds { Builds job.now (devices_of (change_of I.rest I.faults input.old input.new) (change_of O.written O.faults out.old out.new) (scratch_change_of S.told S.asked S.faults scratch.old scratch.new))
@@ -121,14 +97,19 @@ fn build_parts<I: ByteSource, S: Scratch, O: ByteSink, L: Ledger, T: Ledger>(
     ensures spill_cause { result ≡ Err BuildFault.ScratchFault → Rose (S.faults scratch.old) (S.faults scratch.new) }
     ensures put_cause { result ≡ Err BuildFault.WriteFault → Rose (O.faults out.old) (O.faults out.new) }
 {
-    let spilled = spill(job, input, block_a, block_b, window, pool, scratch)?;
+    let spilled = spill(
+        job,
+        input,
+        room.block_a.as_mut_slice(),
+        room.block_b.as_mut_slice(),
+        room.window.as_mut_slice(),
+        room.pool.as_mut_slice(),
+        scratch,
+    )?;
     let totals = write_nodes(
         &spilled.grid,
         job.plan.split,
-        block_a,
-        block_b,
-        slots,
-        queues,
+        room,
         scratch,
         out,
         moves,
@@ -140,6 +121,6 @@ fn build_parts<I: ByteSource, S: Scratch, O: ByteSink, L: Ledger, T: Ledger>(
         triangles: spilled.taken.triangles,
         cells: totals.cells,
         records: totals.records,
-        parts: u64::from(parts),
+        parts: u64::from(part_count(job.plan.split)),
     })
 }

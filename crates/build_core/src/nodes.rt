@@ -15,16 +15,16 @@ use dev_traits::{ByteSink, Scratch};
 use level_queues::LevelQueues;
 use morton_scan::PartSlots;
 use node_file::{NodeWriter, Totals};
-use room_plan::{QueueEntry, Queues};
+use room_plan::{Queues, Room};
 use std::sync::ledger::Ledger;
 use svo_base::{Grid, Steps};
 
 /// Puts out the node file of the cells that the triangles on scratch fill, and answers how many words
 /// and cells it has. At every answer the sink grew by a front of that file.
 ///
-/// The parts of the grid at `split` lie in the streams from 1 on. `block` is for reads of them, and
-/// `words_block` for puts; `slots` has a place for each cell of a part, and `entries` eight for each
-/// level. What they hold does not matter.
+/// The parts of the grid at `split` lie in the streams from 1 on. The room's first block is for reads of
+/// them, and its second one for puts; it has a slot for each cell of a part, and eight queue entries for
+/// each level. What it holds does not matter.
 ///
 /// # Errors
 ///
@@ -32,10 +32,7 @@ use svo_base::{Grid, Steps};
 pub fn write_nodes<S: Scratch, O: ByteSink, L: Ledger, T: Ledger>(
     grid: &Grid,
     split: u32,
-    block: &mut [u8],
-    words_block: &mut [u8],
-    slots: &mut [u32],
-    entries: &mut [QueueEntry],
+    room: &mut Room,
     scratch: &mut S,
     out: &mut O,
     moves: &mut Steps<L>,
@@ -43,10 +40,10 @@ pub fn write_nodes<S: Scratch, O: ByteSink, L: Ledger, T: Ledger>(
 ) -> Result<Totals, NodesFault>
     requires split { split ≤ grid.now.depth }
     requires few { split ≤ 4 }
-    requires block { 40 ≤ length block.old }
-    requires words_block { 48 ≤ length words_block.old }
-    requires slots { 8 ^ (grid.now.depth - split) ≤ length slots.old }
-    requires entries { length entries.old ≡ 8 * grid.now.depth }
+    requires block { 40 ≤ length room.old.block_a }
+    requires words_block { 48 ≤ length room.old.block_b }
+    requires slots { 8 ^ (grid.now.depth - split) ≤ length room.old.slots }
+    requires entries { length room.old.queues ≡ 8 * grid.now.depth }
     requires streams { 8 ^ split < S.started scratch.old }
     ensures file { IfOk result (λ totals. HasPutFile grid.now split (S.told scratch.old) (O.written out.old) (O.written out.new) totals moves.old moves.new) }
     ensures front { HasPutFront grid.now split (S.told scratch.old) (O.written out.old) (O.written out.new) moves.old moves.new }
@@ -61,16 +58,16 @@ pub fn write_nodes<S: Scratch, O: ByteSink, L: Ledger, T: Ledger>(
     ensures read_cause { result ≡ Err NodesFault.Scratch → Rose (S.faults scratch.old) (S.faults scratch.new) }
     ensures put_cause { result ≡ Err NodesFault.Sink → Rose (O.faults out.old) (O.faults out.new) }
 {
-    let mut slots = PartSlots::new(slots);
-    let mut queues = LevelQueues::new(grid.depth(), Queues::new(entries));
-    let mut writer = match NodeWriter::begin(out, words_block, grid) {
+    let mut slots = PartSlots::new(room.slots.as_mut_slice());
+    let mut queues = LevelQueues::new(grid.depth(), Queues::new(room.queues.as_mut_slice()));
+    let mut writer = match NodeWriter::begin(out, room.block_b.as_mut_slice(), grid) {
         Ok(writer) => writer,
         Err(_) => return Err(NodesFault::Sink),
     };
     write_parts(
         grid,
         split,
-        block,
+        room.block_a.as_mut_slice(),
         &mut slots,
         scratch,
         &mut queues,

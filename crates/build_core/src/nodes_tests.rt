@@ -1,12 +1,12 @@
 //! The node file of a point that eight cells share, from scratch in memory.
 
-ghost use Rattle.std.specs.Prelude.{◌≡◌, ◌<◌, ◌≤◌, None, OnOk};
+ghost use Rattle.std.specs.Prelude.{◌≡◌, ◌<◌, ◌≤◌, None, length, IfSome, OnOk};
 
 use crate::faults::NodesFault;
 use crate::nodes::write_nodes;
 use dev_traits::{ByteSink, Failed, MemScratch, MemSink, PartFail, Scratch};
 use node_file::{Totals, header_bytes, trailer_bytes};
-use room_plan::QueueEntry;
+use room_plan::{Room, plan};
 use std::alloc::{AllocError, Global};
 use std::marker::Brand;
 use std::sync::ledger::{Blank, Ledger};
@@ -23,15 +23,33 @@ const WORDS: &[u64] = &[
     769, 769, 769, 769, 769, 769, 769, 769, 128, 320, 544, 784, 1032, 1284, 1538, 1793, 2303,
 ];
 
+/// What a put answered, or `None` where there is no memory.
+type Answer = Option<Result<Totals, NodesFault>>;
+
+/// Room for a grid of depth 2 in one part, or `None` where there is no memory.
+fn room_for(alloc: Global) -> Option<Room>
+    ensures block { IfSome result (λ room. length room.block_a ≡ 4096) }
+    ensures words_block { IfSome result (λ room. length room.block_b ≡ 4096) }
+    ensures entries { IfSome result (λ room. length room.queues ≡ 16) }
+    ensures slots { IfSome result (λ room. 64 ≤ length room.slots) }
+{
+    let plan = plan(2, 1 << 20).ok()?;
+    if plan.depth != 2 || plan.slots < 64 {
+        return None;
+    }
+    Room::make(alloc, &plan).ok()
+}
+
 /// Puts the node file, where the split is 0 or 1.
 fn put_counted<S: Scratch, O: ByteSink, L: Ledger, T: Ledger>(
+    alloc: Global,
     grid: &Grid,
     split: u32,
     scratch: &mut S,
     out: &mut O,
     blank: Blank,
     other: Blank,
-) -> Result<Totals, NodesFault>
+) -> Answer
     requires depth { grid.now.depth ≡ 2 }
     requires split { split ≤ 1 }
     requires streams { 9 ≤ S.started scratch.old }
@@ -42,38 +60,35 @@ fn put_counted<S: Scratch, O: ByteSink, L: Ledger, T: Ledger>(
     requires other_parts { other.parts ≡ T.parts }
     requires other_one { 0 < other.parts }
 {
+    let mut room = room_for(alloc)?;
     let mut moves = Steps::<L>::new(blank);
     let mut tests = Steps::<T>::new(other);
-    let mut block = [0; 100];
-    let mut words_block = [0; 64];
-    let mut slots = [7; 64];
-    let mut entries = [QueueEntry { word: 7, state: 9 }; 16];
-    write_nodes(
-        grid,
-        split,
-        &mut block,
-        &mut words_block,
-        &mut slots,
-        &mut entries,
-        scratch,
-        out,
-        &mut moves,
-        &mut tests,
-    )
+    Some(write_nodes(
+        grid, split, &mut room, scratch, out, &mut moves, &mut tests,
+    ))
 }
 
 /// The same with a count of its own for each.
 fn put<S: Scratch, O: ByteSink>(
+    alloc: Global,
     grid: &Grid,
     split: u32,
     scratch: &mut S,
     out: &mut O,
-) -> Result<Totals, NodesFault>
+) -> Answer
     requires depth { grid.now.depth ≡ 2 }
     requires split { split ≤ 1 }
     requires streams { 9 ≤ S.started scratch.old }
 {
-    put_counted::<S, O, Brand, Brand>(grid, split, scratch, out, Blank::new(1), Blank::new(1))
+    put_counted::<S, O, Brand, Brand>(
+        alloc,
+        grid,
+        split,
+        scratch,
+        out,
+        Blank::new(1),
+        Blank::new(1),
+    )
 }
 
 /// The point's triangle in the streams from 1 to 8.
@@ -90,18 +105,19 @@ fn fill<S: Scratch>(scratch: &mut S) -> Result<(), Failed>
 
 /// Fills the streams, and puts the file.
 fn there_and_put<S: Scratch, O: ByteSink>(
+    alloc: Global,
     grid: &Grid,
     split: u32,
     scratch: &mut S,
     out: &mut O,
-) -> Result<Totals, NodesFault>
+) -> Answer
     requires depth { grid.now.depth ≡ 2 }
     requires split { split ≤ 1 }
     requires asked { S.asked scratch.old ≡ None }
 {
     match fill(scratch) {
-        Ok(()) => put(grid, split, scratch, out),
-        Err(_) => Err(NodesFault::Scratch),
+        Ok(()) => put(alloc, grid, split, scratch, out),
+        Err(_) => Some(Err(NodesFault::Scratch)),
     }
 }
 
@@ -125,13 +141,13 @@ fn a_point_fills_eight_cells(rt: HostRuntime) {
     for split in 0..2 {
         let mut scratch = MemScratch::new(rt.alloc(), 9, 4000, &[]).expect(&rt, "memory");
         let mut sink = MemSink::new(rt.alloc(), 1 << 12, &[]).expect(&rt, "memory");
-        let put = there_and_put(&grid, split, &mut scratch, &mut sink);
+        let put = there_and_put(rt.alloc(), &grid, split, &mut scratch, &mut sink);
         assert_eq!(rt;
             put,
-            Ok(Totals {
+            Some(Ok(Totals {
                 records: 17,
                 cells: 8
-            }),
+            })),
             "totals at split {split}"
         );
         assert!(rt;
@@ -152,18 +168,18 @@ fn a_fault_leaves_a_front_of_the_file(rt: HostRuntime) {
         let fails = [PartFail { call, taken: 5 }];
         let mut scratch = MemScratch::new(rt.alloc(), 9, 4000, &[]).expect(&rt, "memory");
         let mut sink = MemSink::new(rt.alloc(), 1 << 12, &fails).expect(&rt, "memory");
-        let put = there_and_put(&grid, 1, &mut scratch, &mut sink);
+        let put = there_and_put(rt.alloc(), &grid, 1, &mut scratch, &mut sink);
         let whole = sink.bytes().len() == file.len();
         assert_eq!(rt;
             put,
-            if whole {
+            Some(if whole {
                 Ok(Totals {
                     records: 17,
                     cells: 8
                 })
             } else {
                 Err(NodesFault::Sink)
-            },
+            }),
             "the answer at call {call}"
         );
         assert!(rt;
@@ -175,8 +191,8 @@ fn a_fault_leaves_a_front_of_the_file(rt: HostRuntime) {
         let fails = [PartFail { call, taken: 0 }];
         let mut scratch = MemScratch::new(rt.alloc(), 9, 4000, &fails).expect(&rt, "memory");
         let mut sink = MemSink::new(rt.alloc(), 1 << 12, &[]).expect(&rt, "memory");
-        let put = there_and_put(&grid, 1, &mut scratch, &mut sink);
-        assert_eq!(rt; put, Err(NodesFault::Scratch), "the answer at call {call}");
+        let put = there_and_put(rt.alloc(), &grid, 1, &mut scratch, &mut sink);
+        assert_eq!(rt; put, Some(Err(NodesFault::Scratch)), "the answer at call {call}");
         assert!(rt;
             file.as_slice().starts_with(sink.bytes()),
             "a front at call {call}"

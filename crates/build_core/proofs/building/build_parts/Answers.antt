@@ -8,10 +8,10 @@ use Rattle.build_core.proofs.BuiltFiles.{file_built, nodes_stop, nodes_in_time, 
 use Rattle.build_core.proofs.building.build_parts.Goals as goal
 
 pub spill-requires-clause-window : goal.spill-requires-clause-window
-spill-requires-clause-window g c = omega (arith, (valid_sizes c.args.job.now.plan c.requires.job.planned).window, c.requires.window)
+spill-requires-clause-window g c = omega (arith, (valid_sizes c.args.job.now.plan c.requires.job.planned).window, c.requires.room.window)
 
 pub spill-requires-clause-pool : goal.spill-requires-clause-pool
-spill-requires-clause-pool g c = omega (arith, (valid_sizes c.args.job.now.plan c.requires.job.planned).pool, c.requires.pool)
+spill-requires-clause-pool g c = omega (arith, (valid_sizes c.args.job.now.plan c.requires.job.planned).pool, c.requires.room.pool)
 
 pub write_nodes-requires-clause-split : goal.write_nodes-requires-clause-split
 write_nodes-requires-clause-split g c = omega (arith, (valid_sizes c.args.job.now.plan c.requires.job.planned).within, c.in_ok-spilled.ensures.spills.is.depth)
@@ -22,7 +22,10 @@ write_nodes-requires-clause-few g c = (valid_sizes c.args.job.now.plan c.require
 pub write_nodes-requires-clause-slots : goal.write_nodes-requires-clause-slots
 write_nodes-requires-clause-slots g c =
     let slots = (valid_sizes c.args.job.now.plan c.requires.job.planned).slots in
-    rw c.in_ok-spilled.ensures.spills.is.depth (omega (arith, slots, c.requires.slots))
+    rw c.in_ok-spilled.ensures.spills.is.depth (omega (arith, slots, c.requires.room.slots))
+
+pub part_count-requires : goal.part_count-requires
+part_count-requires g c = (valid_sizes c.args.job.now.plan c.requires.job.planned).split
 
 pub returns-in_err-spilled-clause-builds : goal.returns-in_err-spilled-clause-builds
 returns-in_err-spilled-clause-builds g c =
@@ -108,4 +111,4 @@ returns-clause-builds g c =
     let built : Built = record { grid = spilled.grid; faces = spilled.taken.faces; triangles = spilled.taken.triangles; cells = totals.cells; records = totals.records; parts = c.from.result } in
     subst (λ streams. HasBuilt job (d streams) c.args.moves.now c.write_nodes.new.moves c.args.tests.now c.write_nodes.new.tests built) (sym c.write_nodes.ensures.told)
     (file_built job (d (g.S.Scratch.told c.spill.new.scratch)) spilled totals c.from.result c.args.moves.now c.write_nodes.new.moves c.args.tests.now c.write_nodes.new.tests
-    c.in_ok-spilled.ensures.spills c.in_ok-totals.ensures.file c.write_nodes.ensures.tests (c.from.ensures ∙ c.requires.parts))
+    c.in_ok-spilled.ensures.spills c.in_ok-totals.ensures.file c.write_nodes.ensures.tests (c.from.ensures ∙ c.part_count.ensures))
