@@ -29,7 +29,7 @@ use Rattle.ray_answers.specs.RayTexts.{rays_of}
 use Rattle.ray_answers.specs.declared.stops.RayStop.{RayStop}
 use Rattle.ray_answers.specs.declared.stops.RayStop.TheVariants as stop
 use Rattle.svo_top.specs.Rays.{Casts, ReadsRays, AnswersRays, status_of_end, status_of_rays}
-use Rattle.svo_top.specs.Asking.{MayEnd, Answers, Works, Admits, AsksFile, Ends, EndsAtOnce, NeedsGrid}
+use Rattle.svo_top.specs.Asking.{MayEnd, ComesAfterFile, Answers, Works, Admits, AsksFile, Ends, EndsAtOnce, NeedsGrid}
 use Rattle.slice_view.specs.Cameras.{CameraShape}
 use Rattle.slice_view.specs.Pictures.{pgm_header}
 use Rattle.slice_view.specs.Views.{PutsView}
@@ -43,7 +43,7 @@ use Rattle.svo_top.specs.declared.asking.Question.TheVariants as question
 use Rattle.svo_top.specs.declared.outcome.Status.{Status}
 use Rattle.svo_top.specs.declared.outcome.Status.TheVariants.{Done, Usage, Input, Range, Device, Refused, Memory}
 use Rattle.svo_top.specs.declared.outcome.RangeFault.{RangeFault}
-use Rattle.svo_top.specs.declared.outcome.RangeFault.TheVariants.{Ray, Slice as BadSlice}
+use Rattle.svo_top.specs.declared.outcome.RangeFault.TheVariants.{Decimals, Grid, Memory as TooMuch, LeastMemory, Triangle, Cube, Keep, Code, Made, Slice as BadSlice, View as BadView, Ray}
 use Rattle.svo_top.specs.declared.outcome.NodeRefusal.{NodeRefusal}
 use Rattle.svo_top.specs.declared.outcome.NodeRefusal.TheVariants.{NoFile, NotNodes, Number}
 use Rattle.svo_top.specs.declared.outcome.Device.TheVariants.{Read, Scratch, Write, Nodes}
@@ -381,7 +381,7 @@ module _ (out : Change) (before after : ℕ) (unwritten : IsKept out) where
 -- ---- a file that was not admitted
 
 module _ (question : Question) (file : FileView) (framed : IsFileView file) (input out : Change) (before after : ℕ) (unread : IsKept input) (unwritten : IsKept out) where
-  at_once : (wanted status : Status) → (DidNotRise before after → (status ≡ wanted) ⊎ (status ≡ Memory)) → EndsAtOnce wanted input out before after status
+  at_once : (wanted status : Status) → (DidNotRise before after → status ≡ wanted) → EndsAtOnce wanted input out before after status
   at_once wanted status is = record { unread = unread; unwritten = unwritten; is = is }
 
   -- the store failed
@@ -391,6 +391,7 @@ module _ (question : Question) (file : FileView) (framed : IsFileView file) (inp
     refuses = λ words number told is. at_once (Refused (Number number)) (Device Nodes) (λ quiet. absurd (clash before after rose quiet));
     barred = λ words fault told needs e. absurd cc;
     bars = λ cells fault keeps is. at_once (Range fault) (Device Nodes) (λ quiet. absurd (clash before after rose quiet));
+    accepted = λ words told after. absurd after;
     works = λ cells keeps free. works_failed out before after unwritten question file.format file.grid cells input unread rose;
   }
 
@@ -398,9 +399,10 @@ module _ (question : Question) (file : FileView) (framed : IsFileView file) (inp
   refused_file : (number : ℕ) → IfSome file.words (λ words. refused_of file words ≡ Some number) → AsksFile question file input out before after (Refused (Number number))
   refused_file number refused = record {
     refused = λ words refusal told e. (number, same_refusal refusal e, named words told);
-    refuses = λ words other told is. at_once (Refused (Number other)) (Refused (Number number)) (λ quiet. inl (ap (λ n. Refused (Number n)) (one_value number other (sym (named words told) ∙ is))));
+    refuses = λ words other told is. at_once (Refused (Number other)) (Refused (Number number)) (λ quiet. ap (λ n. Refused (Number n)) (one_value number other (sym (named words told) ∙ is)));
     barred = λ words fault told needs e. absurd cc;
     bars = λ cells fault keeps is. absurd (kept cells keeps);
+    accepted = λ words told after. absurd after;
     works = λ cells keeps free. absurd (kept cells keeps);
   }
     where
@@ -417,15 +419,30 @@ module _ (question : Question) (file : FileView) (framed : IsFileView file) (inp
       same_refusal refusal e = cc
 
   -- a number is out of its grid
-  barred_file : (fault : RangeFault) → IfSome file.words (λ words. refused_of file words ≡ None) → bar question file.grid.depth ≡ Some fault → AsksFile question file input out before after (Range fault)
-  barred_file fault accepted barred = record {
+  barred_file : (fault : RangeFault) → NeedsGrid fault → IfSome file.words (λ words. refused_of file words ≡ None) → bar question file.grid.depth ≡ Some fault → AsksFile question file input out before after (Range fault)
+  barred_file fault needs_grid accepted barred = record {
     refused = λ words refusal told e. absurd cc;
     refuses = λ words number told is. absurd (not_two (refused_of file words) number (at_some file.words words (λ words. refused_of file words ≡ None) told accepted) is);
     barred = λ words other told needs e. (at_some file.words words (λ words. refused_of file words ≡ None) told accepted, barred ∙ ap Some (same_fault other e));
-    bars = λ cells other keeps is. at_once (Range other) (Range fault) (λ quiet. inl (ap Range (one_fault other (sym barred ∙ is))));
+    bars = λ cells other keeps is. at_once (Range other) (Range fault) (λ quiet. ap Range (one_fault other (sym barred ∙ is)));
+    accepted = λ words told after. absurd (early fault needs_grid after);
     works = λ cells keeps free. absurd (not_two (bar question file.grid.depth) fault free barred);
   }
     where
+      early : (one : RangeFault) → NeedsGrid one → ComesAfterFile (Range one) → ⊥
+      early Decimals needs after = needs
+      early (Grid one) needs after = needs
+      early TooMuch needs after = needs
+      early (LeastMemory least) needs after = needs
+      early Triangle needs after = needs
+      early Cube needs after = needs
+      early Keep needs after = needs
+      early Code needs after = after
+      early Made needs after = needs
+      early BadSlice needs after = after
+      early BadView needs after = needs
+      early (Ray place) needs after = needs
+
       one_fault : (other : RangeFault) → Some fault ≡ Some other → fault ≡ other
       one_fault other same = cc
 
@@ -436,7 +453,7 @@ module _ (question : Question) (file : FileView) (framed : IsFileView file) (inp
   not_admitted Done admits = absurd admits
   not_admitted (Usage kind) admits = absurd admits
   not_admitted (Input kind place) admits = absurd admits
-  not_admitted (Range fault) admits = barred_file fault admits.0 admits.1
+  not_admitted (Range fault) admits = barred_file fault admits.2 admits.0 admits.1
   not_admitted (Device Read) admits = absurd admits
   not_admitted (Device Scratch) admits = absurd admits
   not_admitted (Device Write) admits = absurd admits
@@ -459,6 +476,7 @@ module _ (question : Question) (file : FileView) (framed : IsFileView file) (inp
     refuses = λ words number told is. absurd (not_two (refused_of file words) number (at_some file.words words (λ words. refused_of file words ≡ None) told accepted) is);
     barred = λ words fault told needs e. absurd (unbarred fault needs e);
     bars = λ cells fault keeps is. absurd (not_two (bar question file.grid.depth) fault free is);
+    accepted = λ words told after. (at_some file.words words (λ words. refused_of file words ≡ None) told accepted, free);
     works = λ cells keeps none. works_later question file.format file.grid cells input out before between after status early late (works cells keeps);
   }
     where

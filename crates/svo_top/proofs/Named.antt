@@ -1,6 +1,6 @@
 -- What a question answers of a named file, from what its load and its parts gave.
 use Rattle.std.proofs.Common.{◌≡◌, ◌⊎◌, ℕ, ◌≤◌, List, length, map, Option, None, Some, Result, Ok, Err, refl, sym, ap, subst, ◌∙◌, inl, inr, arith}
-use Rattle.std.specs.Prelude.{IfSome}
+use Rattle.std.specs.Prelude.{IfSome, Bool, true, false, if◌then◌else◌}
 use Rattle.std.specs.List.{range_with_len}
 use Rattle.dev_traits.specs.Change.{Change, StoreChange, IsKept}
 use Rattle.dev_traits.specs.Faults.{Rose, DidNotRise}
@@ -21,8 +21,9 @@ use Rattle.node_file.specs.declared.loading.LoadFault.TheVariants as load
 use Rattle.ray_answers.specs.RayTexts.{rays_of}
 use Rattle.ray_answers.specs.declared.stops.RayStop.{RayStop}
 use Rattle.svo_top.specs.Rays.{EndsText}
-use Rattle.svo_top.specs.Answering.{bar}
-use Rattle.svo_top.specs.Asking.{Works, AsksFile, AsksBytes, EndsAtOnce, NeedsGrid, Ends, Reads, Asks}
+use Rattle.svo_top.specs.Answering.{bar, is_code}
+use Rattle.svo_top.specs.Picturing.{is_layer}
+use Rattle.svo_top.specs.Asking.{Works, Admits, AsksFile, AsksBytes, EndsAtOnce, IsLate, NeedsGrid, Ends, Reads, Asks, keeps_blocks}
 use Rattle.svo_top.specs.Loaded.{status_of_load}
 use Rattle.svo_top.specs.NodeFiles.{Tells, IsRefusedAt, IsRefusedFor, Keeps, KeepsCells, refused_of}
 use Rattle.svo_top.specs.declared.asking.Question.{Question}
@@ -30,9 +31,10 @@ use Rattle.svo_top.specs.declared.asking.Question.TheVariants as question
 use Rattle.svo_top.specs.declared.outcome.Status.{Status}
 use Rattle.svo_top.specs.declared.outcome.Status.TheVariants.{Done, Usage, Input, Range, Device, Refused, Memory}
 use Rattle.svo_top.specs.declared.outcome.RangeFault.{RangeFault}
+use Rattle.svo_top.specs.declared.outcome.RangeFault.TheVariants.{Code, Slice as BadSlice}
 use Rattle.svo_top.specs.declared.outcome.NodeRefusal.{NodeRefusal}
 use Rattle.svo_top.specs.declared.outcome.NodeRefusal.TheVariants.{NoFile, NotNodes, Number}
-use Rattle.svo_top.specs.declared.outcome.Device.TheVariants.{Nodes}
+use Rattle.svo_top.specs.declared.outcome.Device.TheVariants.{Read, Scratch, Write, Nodes}
 use Rattle.svo_top.proofs.Asked.{clash, later_quiet, works_failed, works_memory, works_later, keeps_if_accepted}
 
 at_some : {T : Type 0} (o : Option T) (x : T) (P : T → Type 0) → o ≡ Some x → IfSome o P → P x
@@ -50,7 +52,7 @@ same_refusal one refusal e = cc
 -- ---- a file that is not loaded
 
 module _ (question : Question) (bytes : Option (List ℕ)) (input out : Change) (before after : ℕ) (unread : IsKept input) (unwritten : IsKept out) where
-  at_once : (wanted status : Status) → (DidNotRise before after → (status ≡ wanted) ⊎ (status ≡ Memory)) → EndsAtOnce wanted input out before after status
+  at_once : (wanted status : Status) → (DidNotRise before after → status ≡ wanted) → EndsAtOnce wanted input out before after status
   at_once wanted status is = record { unread = unread; unwritten = unwritten; is = is }
 
   -- the store failed
@@ -60,6 +62,7 @@ module _ (question : Question) (bytes : Option (List ℕ)) (input out : Change) 
     refuses = λ refusal is. at_once (Refused refusal) (Device Nodes) (λ quiet. absurd (clash before after rose quiet));
     barred = λ fault needs e. absurd cc;
     bars = λ format grid cells fault keeps is. at_once (Range fault) (Device Nodes) (λ quiet. absurd (clash before after rose quiet));
+    accepted = λ comes. absurd comes;
     works = λ format grid cells keeps free. works_failed out before after unwritten question format grid cells input unread rose;
   }
 
@@ -70,11 +73,12 @@ module _ (question : Question) (bytes : Option (List ℕ)) (input out : Change) 
     refuses = refuses_missing;
     barred = λ fault needs e. absurd cc;
     bars = λ format grid cells fault keeps is. absurd (not_two bytes keeps.content none keeps.is);
+    accepted = λ comes. absurd comes;
     works = λ format grid cells keeps free. absurd (not_two bytes keeps.content none keeps.is);
   }
     where
       refuses_missing : (refusal : NodeRefusal) → IsRefusedFor refusal bytes → EndsAtOnce (Refused refusal) input out before after (Refused NoFile)
-      refuses_missing NoFile is = at_once (Refused NoFile) (Refused NoFile) (λ quiet. inl refl)
+      refuses_missing NoFile is = at_once (Refused NoFile) (Refused NoFile) (λ quiet. refl)
       refuses_missing NotNodes is = absurd (not_two bytes is.0 none is.1)
       refuses_missing (Number number) is = absurd (not_two bytes is.0 none is.1)
 
@@ -85,6 +89,7 @@ module _ (question : Question) (bytes : Option (List ℕ)) (input out : Change) 
     refuses = refuses_unframed;
     barred = λ fault needs e. absurd cc;
     bars = λ format grid cells fault keeps is. absurd (no_file format grid cells keeps);
+    accepted = λ comes. absurd comes;
     works = λ format grid cells keeps free. absurd (no_file format grid cells keeps);
   }
     where
@@ -96,7 +101,7 @@ module _ (question : Question) (bytes : Option (List ℕ)) (input out : Change) 
 
       refuses_unframed : (refusal : NodeRefusal) → IsRefusedFor refusal bytes → EndsAtOnce (Refused refusal) input out before after (Refused NotNodes)
       refuses_unframed NoFile is = absurd (not_two bytes b is some)
-      refuses_unframed NotNodes is = at_once (Refused NotNodes) (Refused NotNodes) (λ quiet. inl refl)
+      refuses_unframed NotNodes is = at_once (Refused NotNodes) (Refused NotNodes) (λ quiet. refl)
       refuses_unframed (Number number) is =
           absurd (other is.2.format is.2.grid is.2.words is.2.cells (subst (IsFramed is.2.format is.2.grid is.2.words is.2.cells) (one_value bytes is.0 b is.1 some) is.2.framed))
 
@@ -198,6 +203,10 @@ module _ (question : Question) (file : FileView) (bytes : Option (List ℕ)) (b 
     bars = λ format grid cells fault keeps is.
         let grids : grid ≡ file.grid = (framed_as format grid cells keeps).grids in
         earlier (Range fault) (asks.bars cells fault (keeps_cells format grid cells keeps) (subst (λ (g : GridShape). bar question g.depth ≡ Some fault) grids is));
+    accepted = λ comes.
+        let free = asks.accepted words told comes in
+        let keeps = keeps_if_accepted file words framed told free.0 in
+        (file.format, file.grid, keeps.0, kept_as keeps.0 keeps.1, free.1);
     works = λ format grid cells keeps free.
         let same = framed_as format grid cells keeps in
         subst (λ f. Works question f grid cells input out before after status) (sym same.formats)
@@ -265,26 +274,51 @@ asked view loaded_as question name input out nodes between after status framed s
   ends = ends_later question input out nodes.faults_before between nodes.faults_after status early (subst (λ n. Ends question input out between n status) (sym known) ends);
 }
 
--- a question that was not asked for want of memory
-pub asks_memory : (question : Question) (name : List ℕ) (input out : Change) (nodes : StoreChange) → IsKept input → IsKept out → Asks question name input out nodes Memory
-asks_memory question name input out nodes kept_input kept_out = record {
-  told = λ bytes tells. record {
-    refused = λ refusal e. absurd cc;
-    refuses = λ refusal is. at_once (Refused refusal);
-    barred = λ fault needs e. absurd cc;
-    bars = λ format grid cells fault keeps is. at_once (Range fault);
-    works = λ format grid cells keeps free. works_memory out nodes.faults_before nodes.faults_after kept_out question format grid cells input kept_input;
-  };
-  ends = record {
-    may = tt;
-    reads = reads_kept question input Memory kept_input (λ text end. tt);
-    read = λ e. absurd cc;
-    written = λ e. absurd cc;
-    looked = λ e. absurd cc;
-    memory = λ e. (kept_input, kept_out);
-    barred = λ fault needs e. absurd cc;
-  };
+-- memory ran out behind an accepted file
+pub memory_ends : (question : Question) (input out : Change) (before after : ℕ) → keeps_blocks question ≡ true → IsKept input → IsKept out → Ends question input out before after Memory
+memory_ends question input out before after keeps kept_input kept_out = record {
+  may = keeps;
+  reads = reads_kept question input Memory kept_input (λ text end. tt);
+  read = λ e. absurd cc;
+  written = λ e. absurd cc;
+  looked = λ e. absurd cc;
+  memory = λ e. (kept_input, kept_out);
+  barred = λ fault needs e. absurd cc;
 }
-  where
-    at_once : (wanted : Status) → EndsAtOnce wanted input out nodes.faults_before nodes.faults_after Memory
-    at_once wanted = record { unread = kept_input; unwritten = kept_out; is = λ quiet. inr refl }
+
+-- a file that was not admitted
+module _ (asked_of : Question) (file : FileView) (input out : Change) (before after : ℕ) (unread : IsKept input) (unwritten : IsKept out) where
+  is_late : (asked : Question) (depth : ℕ) (fault : RangeFault) → bar asked depth ≡ Some fault → IsLate asked fault × Reads asked input (Range fault)
+  is_late question.Check depth fault e = absurd cc
+  is_late (question.Has code) depth fault e = (code_late (is_code code depth) e, unread)
+    where
+      code_late : (b : Bool) → (if b then None else Some Code) ≡ Some fault → IsLate (question.Has code) fault
+      code_late true e = absurd cc
+      code_late false e = let same : Code ≡ fault = cc in subst (λ f. IsLate (question.Has code) f) same tt
+  is_late question.Cells depth fault e = absurd cc
+  is_late question.Lift depth fault e = absurd cc
+  is_late question.Cast depth fault e = absurd cc
+  is_late (question.Slice axis at) depth fault e = (layer_late (is_layer at depth) e, unread)
+    where
+      layer_late : (b : Bool) → (if b then None else Some BadSlice) ≡ Some fault → IsLate (question.Slice axis at) fault
+      layer_late true e = absurd cc
+      layer_late false e = let same : BadSlice ≡ fault = cc in subst (λ f. IsLate (question.Slice axis at) f) same tt
+  is_late (question.View camera) depth fault e = absurd cc
+
+  pub stop_ends : (status : Status) → Admits {T = Unit {0}} asked_of file before after (Err status) → Ends asked_of input out before after status
+  stop_ends Done admits = absurd admits
+  stop_ends (Usage kind) admits = absurd admits
+  stop_ends (Input kind place) admits = absurd admits
+  stop_ends (Range fault) admits =
+      let late = is_late asked_of file.grid.depth fault admits.1 in
+      record { may = late.0; reads = late.1; read = λ e. absurd cc; written = λ e. absurd cc; looked = λ e. absurd cc; memory = λ e. absurd cc; barred = λ one needs e. unwritten }
+  stop_ends (Device Read) admits = absurd admits
+  stop_ends (Device Scratch) admits = absurd admits
+  stop_ends (Device Write) admits = absurd admits
+  stop_ends (Device Nodes) admits =
+      record { may = tt; reads = reads_kept asked_of input (Device Nodes) unread (λ text end. tt); read = λ e. absurd cc; written = λ e. absurd cc; looked = λ e. admits; memory = λ e. absurd cc; barred = λ one needs e. absurd cc }
+  stop_ends (Refused NoFile) admits = absurd admits
+  stop_ends (Refused NotNodes) admits = absurd admits
+  stop_ends (Refused (Number number)) admits =
+      record { may = tt; reads = reads_kept asked_of input (Refused (Number number)) unread (λ text end. tt); read = λ e. absurd cc; written = λ e. absurd cc; looked = λ e. absurd cc; memory = λ e. absurd cc; barred = λ one needs e. absurd cc }
+  stop_ends Memory admits = absurd admits

@@ -14,7 +14,7 @@ use Rattle.svo_words.proofs.Meanings.{one_meaning_is}
 use Rattle.svo_top.specs.Asking.{Asks}
 use Rattle.svo_top.specs.Build.{BuildRun, Finished, IsUntouched}
 use Rattle.svo_top.specs.Commands.{MayBeLate, NamesNodes, ReadsInput}
-use Rattle.svo_top.specs.Doing.{Does, QuestionRun}
+use Rattle.svo_top.specs.Doing.{Does, IsForgotten, QuestionRun}
 use Rattle.svo_top.specs.Lines.{Says, stop_line}
 use Rattle.svo_top.specs.Causes.{UsageCauses, RangeCauses, RefusalCauses, KeepsDevices}
 use Rattle.svo_top.specs.Endings.{status_of, line_of, EndsBuild, EndsWhy, EndsQuietly}
@@ -34,7 +34,6 @@ use Rattle.svo_top.specs.declared.outcome.RangeFault.{RangeFault}
 use Rattle.svo_top.specs.declared.outcome.NodeRefusal.{NodeRefusal}
 use Rattle.svo_top.specs.declared.reporting.Ending.{Ending}
 use Rattle.svo_top.specs.declared.reporting.Ending.TheVariants.{Built as EndsBuilt, Answered, Stopped}
-use Rattle.svo_top.proofs.Named.{asks_memory}
 
 -- ---- the words could not be read
 
@@ -46,59 +45,6 @@ fault_back (Err word.Options) fault e rest = sym e
 fault_back (Err word.Value) fault (inl e) rest = sym e
 fault_back (Err word.Value) fault (inr e) rest = absurd (rest cc)
 fault_back (Err word.Memory) fault e rest = absurd (rest cc)
-
-without_memory : (input out : Change) (scratch : ScratchChange) (nodes : StoreChange) → IsKept input → IsKept out → IsScratchKept scratch → IsKept nodes → (command : Command)
-    → Obeys command input out scratch nodes (Stopped Memory)
-without_memory input out scratch nodes kept_input kept_out kept_scratch kept_nodes (Build job) = (
-  tt,
-  record {
-    untouched = λ f e. (kept_input, kept_out, kept_scratch);
-    memory = λ e. (kept_input, kept_out, kept_scratch);
-    asked = inl kept_scratch.1;
-    kept = λ a b c. kept_out;
-    cut_off = λ e. absurd cc;
-    cut_short = λ e. absurd cc;
-    refused = λ kind place e. absurd cc;
-    accepts = λ text one mesh a b c d e f. inr refl;
-    rejects = λ text one ply place a b c d e. inr refl;
-  },
-  kept_nodes,
-)
-without_memory input out scratch nodes kept_input kept_out kept_scratch kept_nodes (Why words) = (
-  tt,
-  record { done = λ e. absurd cc; cut_off = λ e. absurd cc; kept = λ a b. kept_out; answers = λ a b. inr refl },
-  kept_input,
-  kept_scratch,
-  kept_nodes,
-)
-without_memory input out scratch nodes kept_input kept_out kept_scratch kept_nodes (Check words) = (record { quiet = tt; asks = λ e. asks_memory _ words.nodes input out nodes kept_input kept_out }, kept_scratch)
-without_memory input out scratch nodes kept_input kept_out kept_scratch kept_nodes (Has words) = (record { quiet = tt; asks = λ e. asks_memory _ words.nodes input out nodes kept_input kept_out }, kept_scratch)
-without_memory input out scratch nodes kept_input kept_out kept_scratch kept_nodes (Cells words) = (record { quiet = tt; asks = λ e. asks_memory _ words.nodes input out nodes kept_input kept_out }, kept_scratch)
-without_memory input out scratch nodes kept_input kept_out kept_scratch kept_nodes (Lift words) = (record { quiet = tt; asks = λ e. asks_memory _ words.nodes input out nodes kept_input kept_out }, kept_scratch)
-without_memory input out scratch nodes kept_input kept_out kept_scratch kept_nodes (Cast words) = (record { quiet = tt; asks = λ e. asks_memory _ words.nodes input out nodes kept_input kept_out }, kept_scratch)
-without_memory input out scratch nodes kept_input kept_out kept_scratch kept_nodes (Slice words) = (record { quiet = tt; asks = λ e. asks_memory _ words.nodes input out nodes kept_input kept_out }, kept_scratch)
-without_memory input out scratch nodes kept_input kept_out kept_scratch kept_nodes (View words) = (record { quiet = tt; asks = λ camera e. asks_memory _ words.nodes input out nodes kept_input kept_out }, kept_scratch)
-without_memory input out scratch nodes kept_input kept_out kept_scratch kept_nodes (Make words) = (
-  tt,
-  record { done = λ e. absurd cc; cut_off = λ e. absurd cc; kept = λ a b. kept_out; makes = λ a b. inr refl },
-  kept_input,
-  kept_scratch,
-  kept_nodes,
-)
-without_memory input out scratch nodes kept_input kept_out kept_scratch kept_nodes (Sum words) = (
-  tt,
-  record {
-    done = λ e. absurd cc;
-    cut_off = λ e. absurd cc;
-    kept = λ a b. kept_out;
-    unspilled = λ f e. kept_scratch;
-    memory = λ e. kept_scratch;
-    asked = inl kept_scratch.1;
-    sums = λ a b c. inr refl;
-  },
-  kept_input,
-  kept_nodes,
-)
 
 module _ (words : List (List ℕ)) (fault : WordFault) (read : IsRead (form_of words) (Err fault)) where
   read_at : (wanted : Result Command WordFault) → Means words wanted → IsRead wanted (Err fault)
@@ -166,11 +112,9 @@ module _ (words : List (List ℕ)) (fault : WordFault) (read : IsRead (form_of w
       no_refusal word.Value refusal e = cc
       no_refusal word.Memory refusal e = cc
 
-  pub obeys_of_fault : (input out : Change) (scratch : ScratchChange) (nodes : StoreChange) → IsKept input → IsKept out → IsScratchKept scratch → IsKept nodes → (command : Command) → Means words (Ok command)
-      → Obeys command input out scratch nodes (Stopped (status_of_fault fault))
-  obeys_of_fault input out scratch nodes kept_input kept_out kept_scratch kept_nodes command means =
-      let P : WordFault → Type 0 = λ f. Obeys command input out scratch nodes (Stopped (status_of_fault f)) in
-      subst P (sym (memory_from command means)) (without_memory input out scratch nodes kept_input kept_out kept_scratch kept_nodes command)
+  pub forgotten : (input out : Change) (scratch : ScratchChange) (nodes : StoreChange) → IsUntouched input out scratch → IsKept nodes → (command : Command) → Means words (Ok command)
+      → IsForgotten input out scratch nodes (status_of_fault fault)
+  forgotten input out scratch nodes untouched unlooked command means = record { memory = ap status_of_fault (memory_from command means); untouched = untouched; unlooked = unlooked }
 
 -- ---- the words are a command
 

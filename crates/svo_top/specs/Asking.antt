@@ -1,5 +1,5 @@
 -- What a question about a node file answers, and what it leaves of the devices.
-use Rattle.std.specs.Prelude.{◌≡◌, ◌⊎◌, ⊤, ℕ, ◌≤◌, is_some, unsigned_abs, List, length, Option, None, Some, Result, Ok, Err, IfSome}
+use Rattle.std.specs.Prelude.{◌≡◌, ◌⊎◌, ⊤, ℕ, ◌≤◌, Bool, true, false, is_some, unsigned_abs, List, length, Option, None, Some, Result, Ok, Err, IfSome}
 use Rattle.svo_base.specs.GridShape.{GridShape}
 use Rattle.dev_traits.specs.Change.{Change, StoreChange, IsFaulted, IsFaultless, IsKept, Grew}
 use Rattle.dev_traits.specs.Faults.{Rose, DidNotRise}
@@ -72,6 +72,16 @@ abbrev pub CastsRays : Question → Type 0
 CastsRays Cast = ⊤
 CastsRays question = ⊥
 
+-- the words of the file are read by blocks that are kept, for which there may be no memory
+abbrev pub keeps_blocks : Question → Bool
+keeps_blocks Check = false
+keeps_blocks (Has code) = false
+keeps_blocks Cells = true
+keeps_blocks Lift = false
+keeps_blocks Cast = true
+keeps_blocks (Slice axis at) = true
+keeps_blocks (View camera) = true
+
 abbrev pub MayEnd : Question → Status → Type 0
 MayEnd question Done = ⊤
 MayEnd question (Usage kind) = ⊥
@@ -82,7 +92,7 @@ MayEnd question (Device Scratch) = ⊥
 MayEnd question (Device Write) = ⊤
 MayEnd question (Device Nodes) = ⊤
 MayEnd question (Refused refusal) = ⊤
-MayEnd question Memory = ⊤
+MayEnd question Memory = keeps_blocks question ≡ true
 
 -- a question ends so; a device is named only where its count of faults rose; where memory runs out nothing was read or put out, nor was anything put out where a number is out of the file's grid
 pub record Ends (question : Question) (input out : Change) (before after : ℕ) (status : Status) : Type 0 where
@@ -94,11 +104,25 @@ pub record Ends (question : Question) (input out : Change) (before after : ℕ) 
   pub memory : status ≡ Memory → IsKept input × IsKept out
   pub barred : (fault : RangeFault) → NeedsGrid fault → status ≡ Range fault → IsKept out
 
--- nothing was read or put out, and where no fault of the store was counted, the run ends so, unless memory ran out
+-- an ending that comes only once the file was accepted and no number was out of its grid
+abbrev pub ComesAfterFile : Status → Type 0
+ComesAfterFile Done = ⊤
+ComesAfterFile (Usage kind) = ⊥
+ComesAfterFile (Input kind place) = ⊤
+ComesAfterFile (Range (Ray place)) = ⊤
+ComesAfterFile (Range fault) = ⊥
+ComesAfterFile (Device Read) = ⊤
+ComesAfterFile (Device Scratch) = ⊥
+ComesAfterFile (Device Write) = ⊤
+ComesAfterFile (Device Nodes) = ⊥
+ComesAfterFile (Refused refusal) = ⊥
+ComesAfterFile Memory = ⊤
+
+-- nothing was read or put out, and where no fault of the store was counted, the run ends so
 pub record EndsAtOnce (wanted : Status) (input out : Change) (before after : ℕ) (status : Status) : Type 0 where
   pub unread : IsKept input
   pub unwritten : IsKept out
-  pub is : DidNotRise before after → (status ≡ wanted) ⊎ (status ≡ Memory)
+  pub is : DidNotRise before after → status ≡ wanted
 
 -- ---- over a loaded file
 
@@ -107,7 +131,7 @@ abbrev pub Admits : {T : Type 0} → Question → FileView → ℕ → ℕ → R
 Admits question file before after (Ok done) = IfSome file.words (λ words. refused_of file words ≡ None) × (bar question file.grid.depth ≡ None)
 Admits question file before after (Err (Device Nodes)) = Rose before after
 Admits question file before after (Err (Refused (Number number))) = IfSome file.words (λ words. refused_of file words ≡ Some number)
-Admits question file before after (Err (Range fault)) = IfSome file.words (λ words. refused_of file words ≡ None) × (bar question file.grid.depth ≡ Some fault)
+Admits question file before after (Err (Range fault)) = IfSome file.words (λ words. refused_of file words ≡ None) × (bar question file.grid.depth ≡ Some fault) × NeedsGrid fault
 Admits question file before after (Err status) = ⊥
 
 pub record AsksFile (question : Question) (file : FileView) (input out : Change) (before after : ℕ) (status : Status) : Type 0 where
@@ -115,6 +139,7 @@ pub record AsksFile (question : Question) (file : FileView) (input out : Change)
   pub refuses : (words : List ℕ) (number : ℕ) → file.words ≡ Some words → refused_of file words ≡ Some number → EndsAtOnce (Refused (Number number)) input out before after status
   pub barred : (words : List ℕ) (fault : RangeFault) → file.words ≡ Some words → NeedsGrid fault → status ≡ Range fault → (refused_of file words ≡ None) × (bar question file.grid.depth ≡ Some fault)
   pub bars : (cells : List Cell) (fault : RangeFault) → KeepsCells file cells → bar question file.grid.depth ≡ Some fault → EndsAtOnce (Range fault) input out before after status
+  pub accepted : (words : List ℕ) → file.words ≡ Some words → ComesAfterFile status → (refused_of file words ≡ None) × (bar question file.grid.depth ≡ None)
   pub works : (cells : List Cell) → KeepsCells file cells → bar question file.grid.depth ≡ None → Works question file.format file.grid cells input out before after status
 
 -- ---- over a store
@@ -125,6 +150,7 @@ pub record AsksBytes (question : Question) (bytes : Option (List ℕ)) (input ou
   pub refuses : (refusal : NodeRefusal) → IsRefusedFor refusal bytes → EndsAtOnce (Refused refusal) input out before after status
   pub barred : (fault : RangeFault) → NeedsGrid fault → status ≡ Range fault → (format : ℕ) × (grid : GridShape) × (cells : List Cell) × Keeps bytes format grid cells × (bar question grid.depth ≡ Some fault)
   pub bars : (format : ℕ) (grid : GridShape) (cells : List Cell) (fault : RangeFault) → Keeps bytes format grid cells → bar question grid.depth ≡ Some fault → EndsAtOnce (Range fault) input out before after status
+  pub accepted : ComesAfterFile status → (format : ℕ) × (grid : GridShape) × (cells : List Cell) × Keeps bytes format grid cells × (bar question grid.depth ≡ None)
   pub works : (format : ℕ) (grid : GridShape) (cells : List Cell) → Keeps bytes format grid cells → bar question grid.depth ≡ None → Works question format grid cells input out before after status
 
 -- a question about the file of a name

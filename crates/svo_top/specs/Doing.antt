@@ -4,7 +4,7 @@ use Rattle.dev_traits.specs.Change.{Change, ScratchChange, StoreChange, IsKept, 
 use Rattle.svo_words.specs.declared.commands.Command.{Command}
 use Rattle.svo_words.specs.declared.commands.Command.TheVariants.{Build, Why, Check, Has, Cells, Lift, Cast, Slice, View, Make, Sum}
 use Rattle.svo_top.specs.Asking.{Asks}
-use Rattle.svo_top.specs.Build.{BuildRun}
+use Rattle.svo_top.specs.Build.{BuildRun, IsUntouched}
 use Rattle.slice_view.specs.Cameras.{CameraShape}
 use Rattle.svo_words.specs.declared.pictures.ViewWords.{ViewWords}
 use Rattle.svo_top.specs.Picturing.{axis_from, camera_of}
@@ -15,7 +15,7 @@ use Rattle.svo_top.specs.Why.{WhyRun}
 use Rattle.svo_top.specs.declared.asking.Question.{Question}
 use Rattle.svo_top.specs.declared.asking.Question.TheVariants as question
 use Rattle.svo_top.specs.declared.outcome.Status.{Status}
-use Rattle.svo_top.specs.declared.outcome.Status.TheVariants.{Done}
+use Rattle.svo_top.specs.declared.outcome.Status.TheVariants.{Done, Memory}
 use Rattle.svo_top.specs.declared.outcome.RangeFault.{RangeFault}
 
 -- a question about a node file keeps nothing on scratch, and has no line where it is done
@@ -29,6 +29,12 @@ pub record ViewRun (words : ViewWords) (input out : Change) (scratch : ScratchCh
   pub asks : (camera : CameraShape) → camera_of (range_of_keep words.keep) words ≡ Ok camera → Asks (question.View camera) words.nodes input out nodes status
   pub unspilled : IsScratchKept scratch
   pub silent : status ≡ Done → IsKept err
+
+-- memory ran out while the words were read, and no device was touched
+pub record IsForgotten (input out : Change) (scratch : ScratchChange) (nodes : StoreChange) (status : Status) : Type 0 where
+  pub memory : status ≡ Memory
+  pub untouched : IsUntouched input out scratch
+  pub unlooked : IsKept nodes
 
 -- what the run of each command does
 abbrev pub Does : Command → Change → Change → ScratchChange → StoreChange → Change → Status → Type 0

@@ -1,15 +1,15 @@
 //! A question about a loaded file.
 
-ghost use Rattle.std.specs.Prelude.{◌≡◌, ◌≤◌, ◌<◌, ◌&&◌, ◌^◌, ℤ, pos, int_le, nat_lt, unsigned_abs, List, None, IfSome};
+ghost use Rattle.std.specs.Prelude.{◌≡◌, ◌≢◌, ◌≤◌, ◌<◌, ◌&&◌, ◌^◌, ℤ, pos, int_le, nat_lt, unsigned_abs, List, None, IfSome};
 ghost use Rattle.dev_traits.specs.Change.{change_of};
 ghost use Rattle.octree_specs.specs.Cells.{Cell};
 ghost use Rattle.node_file.specs.FileView.{IsFileView};
 ghost use Rattle.svo_top.specs.Answering.{bar, is_code};
-ghost use Rattle.svo_top.specs.Asking.{AsksFile, Ends, Works, IsLate, NeedsGrid, Admits};
+ghost use Rattle.svo_top.specs.Asking.{Ends, Works, IsLate, NeedsGrid, Admits};
 ghost use Rattle.svo_top.specs.Picturing.{is_layer};
 ghost use Rattle.svo_top.specs.Loaded.{status_of_answer};
 ghost use Rattle.svo_top.specs.NodeFiles.{KeepsCells};
-ghost use Rattle.svo_top.specs.declared.outcome.Status.TheVariants.{Range, Refused};
+ghost use Rattle.svo_top.specs.declared.outcome.Status.TheVariants.{Memory, Range, Refused};
 ghost use Rattle.svo_top.specs.declared.outcome.RangeFault.{RangeFault};
 ghost use Rattle.svo_top.specs.declared.outcome.NodeRefusal.{NodeRefusal};
 
@@ -28,35 +28,9 @@ use slice_view::{slice, view};
 use std::sync::ledger::Ledger;
 use svo_base::Steps;
 
-/// Answers a question about a loaded file: it is checked whole, then the ranges are tested that need
-/// its grid, and then comes the work.
-pub fn ask_file<I: ByteSource, O: ByteSink, R: Records, L: Ledger>(
-    question: &Question,
-    input: &mut I,
-    out: &mut O,
-    nodes: &mut R,
-    reads: &mut Steps<L>,
-) -> Status
-    ensures asks { AsksFile question.now (R.file nodes.old)
-        (change_of I.rest I.faults input.old input.new)
-        (change_of O.written O.faults out.old out.new)
-        (R.faults nodes.old) (R.faults nodes.new) result }
-    ensures ends { Ends question.now
-        (change_of I.rest I.faults input.old input.new)
-        (change_of O.written O.faults out.old out.new)
-        (R.faults nodes.old) (R.faults nodes.new) result }
-    ensures later { R.faults nodes.old ≤ R.faults nodes.new }
-    ensures lender { R.lender nodes.new ≡ R.lender nodes.old }
-{
-    match admit(question, nodes, reads) {
-        Err(status) => status,
-        Ok(()) => work(question, input, out, nodes, reads),
-    }
-}
-
 /// Whether the file is a node file and the numbers of the question are in its grid; if not, how the
 /// run ends.
-fn admit<R: Records, L: Ledger>(
+pub fn admit<R: Records, L: Ledger>(
     question: &Question,
     nodes: &mut R,
     reads: &mut Steps<L>,
@@ -155,7 +129,7 @@ fn cell_count(depth: u32) -> u64
 }
 
 /// The work of a question over a file that was checked.
-fn work<I: ByteSource, O: ByteSink, R: Records, L: Ledger>(
+pub fn answer<I: ByteSource, O: ByteSink, R: Records, L: Ledger>(
     question: &Question,
     input: &mut I,
     out: &mut O,
@@ -173,6 +147,7 @@ fn work<I: ByteSource, O: ByteSink, R: Records, L: Ledger>(
         (change_of I.rest I.faults input.old input.new)
         (change_of O.written O.faults out.old out.new)
         (R.faults nodes.old) (R.faults nodes.new) result }
+    ensures remembered { result ≢ Memory }
     ensures unbarred { (fault : RangeFault) → NeedsGrid fault → result ≡ Range fault → ⊥ }
     ensures later { R.faults nodes.old ≤ R.faults nodes.new }
     ensures lender { R.lender nodes.new ≡ R.lender nodes.old }

@@ -2,10 +2,10 @@
 
 ghost use Rattle.std.specs.Prelude.{◌≡◌, ◌<◌, ◌≤◌};
 ghost use Rattle.dev_traits.specs.Change.{change_of};
-ghost use Rattle.svo_top.specs.Asking.{Asks};
+ghost use Rattle.svo_top.specs.Asking.{Asks, keeps_blocks};
 ghost use Rattle.svo_top.specs.Loaded.{status_of_load};
 
-use crate::answering::ask_file;
+use crate::answering::{admit, answer};
 use crate::outcome::{Device, NodeRefusal, Status};
 use block_cache::{BlockCache, Blocks};
 use dev_traits::{ByteSink, ByteSource, NodeStore};
@@ -36,36 +36,49 @@ pub enum Question {
     View(Camera),
 }
 
-/// Answers a question about the file of a name, whose words are read by blocks; so many of those last
-/// read are kept. The file is loaded and checked whole before anything else, and then the ranges are
-/// tested that need its grid. `Memory`: there is none for a table of so many blocks.
+impl Question {
+    /// Whether the words of the file are read by blocks that are kept.
+    fn keeps_blocks(&self) -> bool
+        ensures { result ≡ keeps_blocks self.now }
+    {
+        match self {
+            Question::Cells | Question::Cast | Question::Slice(..) | Question::View(_) => true,
+            Question::Check | Question::Has(_) | Question::Lift => false,
+        }
+    }
+}
+
+/// So many blocks of a file are kept, from 1 to 65536, in memory of this allocator.
+#[derive(Clone, Copy)]
+pub struct Keeping {
+    pub alloc: Global,
+    pub blocks: usize,
+    pub ghost range: { (1 ≤ blocks) × (blocks ≤ 65536) },
+}
+
+/// Answers a question about the file of a name. The file is loaded and checked whole before anything
+/// else, and then the ranges are tested that need its grid. Only then a question that reads words by
+/// kept blocks takes the memory for their table: `Memory`, where there is none.
 pub fn ask<I: ByteSource, O: ByteSink, N: NodeStore>(
-    alloc: Global,
-    keep: usize,
+    keeping: &Keeping,
     name: &Text,
     question: &Question,
     input: &mut I,
     out: &mut O,
     store: &mut N,
 ) -> Status
-    requires { (1 ≤ keep) × (keep ≤ 65536) }
     ensures { Asks question.now name.now
         (change_of I.rest I.faults input.old input.new)
         (change_of O.written O.faults out.old out.new)
         (change_of N.files N.faults store.old store.new) result }
 {
-    match BlockCache::make(alloc, keep) {
-        Err(_) => Status::Memory,
-        Ok(mut cache) => {
-            let blank = Blank::new(1);
-            ask_counted::<I, O, N, Brand>(&mut cache, name, question, input, out, store, blank)
-        }
-    }
+    let blank = Blank::new(1);
+    ask_counted::<I, O, N, Brand>(keeping, name, question, input, out, store, blank)
 }
 
-/// The same with a cache of blocks, and with the counter of reads in the ledger that the blank is for.
+/// The same, with the counter of reads in the ledger that the blank is for.
 fn ask_counted<I: ByteSource, O: ByteSink, N: NodeStore, L: Ledger>(
-    cache: &mut BlockCache,
+    keeping: &Keeping,
     name: &Text,
     question: &Question,
     input: &mut I,
@@ -82,39 +95,23 @@ fn ask_counted<I: ByteSource, O: ByteSink, N: NodeStore, L: Ledger>(
         (change_of N.files N.faults store.old store.new) result }
 {
     let mut reads = Steps::<L>::new(blank);
-    ask_named(
-        cache,
-        name.as_str(),
-        question,
-        input,
-        out,
-        store,
-        &mut reads,
-    )
-}
-
-/// The same, with a counter of reads.
-fn ask_named<I: ByteSource, O: ByteSink, N: NodeStore, L: Ledger>(
-    cache: &mut BlockCache,
-    name: &str,
-    question: &Question,
-    input: &mut I,
-    out: &mut O,
-    store: &mut N,
-    reads: &mut Steps<L>,
-) -> Status
-    ensures { Asks question.now name.now
-        (change_of I.rest I.faults input.old input.new)
-        (change_of O.written O.faults out.old out.new)
-        (change_of N.files N.faults store.old store.new) result }
-{
-    let frame = match Frame::read(store, name) {
+    let frame = match Frame::read(store, name.as_str()) {
         Err(fault) => return status_of_load(fault),
         Ok(frame) => frame,
     };
-    let nodes = Nodes::new(store, frame);
-    let mut blocks = Blocks::new(nodes, cache);
-    ask_file(question, input, out, &mut blocks, reads)
+    let mut nodes = Nodes::new(store, frame);
+    if let Err(status) = admit(question, &mut nodes, &mut reads) {
+        return status;
+    }
+    if !question.keeps_blocks() {
+        return answer(question, input, out, &mut nodes, &mut reads);
+    }
+    let mut cache = match BlockCache::make(keeping.alloc, keeping.blocks) {
+        Err(_) => return Status::Memory,
+        Ok(cache) => cache,
+    };
+    let mut blocks = Blocks::new(nodes, &mut cache);
+    answer(question, input, out, &mut blocks, &mut reads)
 }
 
 /// How a run ends that cannot load a file.

@@ -38,7 +38,7 @@ pub fn show_view<I: ByteSource, O: ByteSink, N: NodeStore>(
     ensures nodes { DeviceCause Device.Nodes (change_of N.files N.faults nodes.old nodes.new) (status_of result) }
     ensures unspilled { status_of result ≢ Status.Device Device.Scratch }
 {
-    let keep = match keep_from(words.keep) {
+    let keep = match keep_from(alloc, words.keep) {
         Err(fault) => return Ending::Stopped(Status::Range(fault)),
         Ok(keep) => keep,
     };
@@ -46,7 +46,7 @@ pub fn show_view<I: ByteSource, O: ByteSink, N: NodeStore>(
         Err(fault) => Ending::Stopped(Status::Range(fault)),
         Ok(camera) => {
             let question = Question::View(camera);
-            Ending::Stopped(ask(alloc, keep, &words.nodes, &question, input, out, nodes))
+            Ending::Stopped(ask(&keep, &words.nodes, &question, input, out, nodes))
         }
     }
 }

@@ -1,6 +1,6 @@
 //! The commands that ask about a node file.
 
-ghost use Rattle.std.specs.Prelude.{◌≡◌, ◌≢◌, ◌≤◌, IfOk};
+ghost use Rattle.std.specs.Prelude.{◌≡◌, ◌≢◌, ◌≤◌, None};
 ghost use Rattle.std.specs.Result.{result_err};
 ghost use Rattle.dev_traits.specs.Change.{change_of};
 ghost use Rattle.svo_base.specs.GridLimits.{is_positive, is_within};
@@ -9,7 +9,7 @@ ghost use Rattle.svo_top.specs.Endings.{status_of};
 ghost use Rattle.svo_top.specs.Obeying.{ObeysQuestion, StopsQuestion};
 ghost use Rattle.svo_top.specs.Ranges.{range_of_keep};
 
-use crate::asking::{Question, ask};
+use crate::asking::{Keeping, Question, ask};
 use crate::outcome::{Device, RangeFault, Status};
 use crate::reporting::Ending;
 use dev_traits::{ByteSink, ByteSource, NodeStore};
@@ -20,20 +20,18 @@ use svo_words::Text;
 const MAX_KEEP: i64 = 65_536;
 
 /// How many blocks of a file are kept by a command that has no word for it.
-pub const USUAL_KEEP: usize = 64;
+const USUAL_KEEP: usize = 64;
 
 /// Asks a question about the file of a name, with so many of its blocks kept, unless that number is out
 /// of its range.
 pub fn obey_question<I: ByteSource, O: ByteSink, N: NodeStore>(
-    alloc: Global,
-    keep: Result<usize, RangeFault>,
+    keep: Result<Keeping, RangeFault>,
     name: &Text,
     question: &Question,
     input: &mut I,
     out: &mut O,
     nodes: &mut N,
 ) -> Ending
-    requires { IfOk keep (λ blocks. (1 ≤ blocks) × (blocks ≤ 65536)) }
     ensures obeys { ObeysQuestion question.now name.now (result_err keep)
         (change_of I.rest I.faults input.old input.new)
         (change_of O.written O.faults out.old out.new)
@@ -49,18 +47,30 @@ pub fn obey_question<I: ByteSource, O: ByteSink, N: NodeStore>(
 {
     match keep {
         Err(fault) => Ending::Stopped(Status::Range(fault)),
-        Ok(blocks) => Ending::Stopped(ask(alloc, blocks, name, question, input, out, nodes)),
+        Ok(keeping) => Ending::Stopped(ask(&keeping, name, question, input, out, nodes)),
     }
 }
 
 /// How many blocks are to be kept, or that the number is out of its range.
-pub fn keep_from(keep: i64) -> Result<usize, RangeFault>
-    ensures range { result_err result ≡ range_of_keep keep }
-    ensures few { IfOk result (λ blocks. (1 ≤ blocks) × (blocks ≤ 65536)) }
+pub fn keep_from(alloc: Global, keep: i64) -> Result<Keeping, RangeFault>
+    ensures { result_err result ≡ range_of_keep keep }
 {
     if (1..=MAX_KEEP).contains(&keep) {
-        Ok(keep as usize)
+        Ok(Keeping {
+            alloc,
+            blocks: keep as usize,
+        })
     } else {
         Err(RangeFault::Keep)
     }
+}
+
+/// The usual number of blocks is kept.
+pub fn usual_keep(alloc: Global) -> Result<Keeping, RangeFault>
+    ensures { result_err result ≡ None }
+{
+    Ok(Keeping {
+        alloc,
+        blocks: USUAL_KEEP,
+    })
 }

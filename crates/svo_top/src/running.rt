@@ -1,9 +1,9 @@
 //! The whole program over its devices.
 
-ghost use Rattle.std.specs.Prelude.{◌≡◌, None, Ok};
+ghost use Rattle.std.specs.Prelude.{◌≡◌, ◌⊎◌, None, Ok};
 ghost use Rattle.dev_traits.specs.Change.{change_of, scratch_change_of};
 ghost use Rattle.svo_top.specs.Causes.{UsageCauses, RangeCauses, RefusalCauses, DeviceCause, KeepsDevices, SaysWhy};
-ghost use Rattle.svo_top.specs.Doing.{Does};
+ghost use Rattle.svo_top.specs.Doing.{Does, IsForgotten};
 ghost use Rattle.svo_top.specs.Endings.{status_of};
 ghost use Rattle.svo_top.specs.Obeying.{Obeys, Stops};
 ghost use Rattle.svo_top.specs.Usage.{status_of_fault};
@@ -15,7 +15,7 @@ use crate::explaining::explain;
 use crate::making::make;
 use crate::outcome::{Device, Status, UsageKind};
 use crate::picturing::{axis_from, show_view};
-use crate::questioning::{USUAL_KEEP, keep_from, obey_question};
+use crate::questioning::{keep_from, obey_question, usual_keep};
 use crate::reporting::{Ending, report};
 use crate::summing::sum;
 use dev_traits::{ByteSink, ByteSource, NodeStore, Scratch};
@@ -29,8 +29,8 @@ use svo_words::{Command, WordFault, read_words};
 /// `Done`: the command's work is done. `Usage`: the words are no command line. `Range`: a number among
 /// them, or one that a node file or the input bounds, is out of range. `Input`: the input was refused.
 /// `Refused`: the named file is no node file. `Device`: a device failed. `Memory`: memory ran out while
-/// the words were read, the room of a build was made, or the table of a file's kept blocks; then nothing
-/// was read, put out or kept.
+/// the words were read, the room of a build was made, or the table of the blocks of a file that are
+/// kept, once the file was accepted; then nothing was read, put out or kept.
 ///
 /// The scratch was not started yet.
 pub fn run<I: ByteSource, O: ByteSink, E: ByteSink, S: Scratch, N: NodeStore>(
@@ -54,7 +54,11 @@ pub fn run<I: ByteSource, O: ByteSink, E: ByteSink, S: Scratch, N: NodeStore>(
     ensures nodes { DeviceCause Device.Nodes (change_of N.files N.faults nodes.old nodes.new) result }
 
     // What the run of a command does.
-    ensures does { (command : Command) → Means words.now (Ok command) → Does command
+    ensures does { (command : Command) → Means words.now (Ok command) → IsForgotten
+        (change_of I.rest I.faults input.old input.new)
+        (change_of O.written O.faults out.old out.new)
+        (scratch_change_of S.told S.asked S.faults scratch.old scratch.new)
+        (change_of N.files N.faults nodes.old nodes.new) result ⊎ Does command
         (change_of I.rest I.faults input.old input.new)
         (change_of O.written O.faults out.old out.new)
         (scratch_change_of S.told S.asked S.faults scratch.old scratch.new)
@@ -91,7 +95,11 @@ fn carry_out<I: ByteSource, O: ByteSink, S: Scratch, N: NodeStore>(
     ensures write { DeviceCause Device.Write (change_of O.written O.faults out.old out.new) (status_of result) }
     ensures scratch { DeviceCause Device.Scratch (change_of S.told S.faults scratch.old scratch.new) (status_of result) }
     ensures nodes { DeviceCause Device.Nodes (change_of N.files N.faults nodes.old nodes.new) (status_of result) }
-    ensures obeys { (command : Command) → Means words.now (Ok command) → Obeys command
+    ensures obeys { (command : Command) → Means words.now (Ok command) → IsForgotten
+        (change_of I.rest I.faults input.old input.new)
+        (change_of O.written O.faults out.old out.new)
+        (scratch_change_of S.told S.asked S.faults scratch.old scratch.new)
+        (change_of N.files N.faults nodes.old nodes.new) (status_of result) ⊎ Obeys command
         (change_of I.rest I.faults input.old input.new)
         (change_of O.written O.faults out.old out.new)
         (scratch_change_of S.told S.asked S.faults scratch.old scratch.new)
@@ -133,7 +141,7 @@ fn obey<I: ByteSource, O: ByteSink, S: Scratch, N: NodeStore>(
     ensures write { DeviceCause Device.Write (change_of O.written O.faults out.old out.new) (status_of result) }
     ensures nodes { DeviceCause Device.Nodes (change_of N.files N.faults nodes.old nodes.new) (status_of result) }
 {
-    let usual = Ok(USUAL_KEEP);
+    let usual = usual_keep(alloc);
     match command {
         Command::Build(words) => build(alloc, words, input, out, scratch),
         Command::Why(words) => explain(words, out),
@@ -142,30 +150,30 @@ fn obey<I: ByteSource, O: ByteSink, S: Scratch, N: NodeStore>(
         Command::View(words) => show_view(alloc, words, input, out, nodes),
         Command::Check(words) => {
             let question = Question::Check;
-            obey_question(alloc, usual, &words.nodes, &question, input, out, nodes)
+            obey_question(usual, &words.nodes, &question, input, out, nodes)
         }
         Command::Has(words) => {
             let question = Question::Has(words.code);
-            obey_question(alloc, usual, &words.nodes, &question, input, out, nodes)
+            obey_question(usual, &words.nodes, &question, input, out, nodes)
         }
         Command::Lift(words) => {
             let question = Question::Lift;
-            obey_question(alloc, usual, &words.nodes, &question, input, out, nodes)
+            obey_question(usual, &words.nodes, &question, input, out, nodes)
         }
         Command::Cells(words) => {
-            let keep = keep_from(words.keep);
+            let keep = keep_from(alloc, words.keep);
             let question = Question::Cells;
-            obey_question(alloc, keep, &words.nodes, &question, input, out, nodes)
+            obey_question(keep, &words.nodes, &question, input, out, nodes)
         }
         Command::Cast(words) => {
-            let keep = keep_from(words.keep);
+            let keep = keep_from(alloc, words.keep);
             let question = Question::Cast;
-            obey_question(alloc, keep, &words.nodes, &question, input, out, nodes)
+            obey_question(keep, &words.nodes, &question, input, out, nodes)
         }
         Command::Slice(words) => {
-            let keep = keep_from(words.keep);
+            let keep = keep_from(alloc, words.keep);
             let question = Question::Slice(axis_from(words.axis), words.at);
-            obey_question(alloc, keep, &words.nodes, &question, input, out, nodes)
+            obey_question(keep, &words.nodes, &question, input, out, nodes)
         }
     }
 }

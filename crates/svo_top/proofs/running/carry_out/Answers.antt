@@ -1,11 +1,10 @@
-use Rattle.std.proofs.Common.{refl, sym, subst}
+use Rattle.std.proofs.Common.{refl, sym, subst, inl, inr}
 use Rattle.dev_traits.specs.Change.{change_of, scratch_change_of}
 use Rattle.svo_top.specs.Causes.{UsageCauses, RangeCauses, RefusalCauses}
 use Rattle.svo_top.specs.Endings.{status_of}
-use Rattle.svo_top.specs.Obeying.{Obeys}
+use Rattle.svo_top.specs.Doing.{IsForgotten}
 use Rattle.svo_top.specs.declared.outcome.Status.{Status}
-use Rattle.svo_top.specs.declared.reporting.Ending.TheVariants.{Stopped}
-use Rattle.svo_top.proofs.WordCauses.{usage_of_fault, range_of_fault, refusal_of_fault, obeys_of_fault, obeys_of, usage_of, range_causes, refusal_causes, devices_kept}
+use Rattle.svo_top.proofs.WordCauses.{usage_of_fault, range_of_fault, refusal_of_fault, forgotten, obeys_of, usage_of, range_causes, refusal_causes, devices_kept}
 use Rattle.svo_top.proofs.running.carry_out.Goals as goal
 
 pub returns-in-Err-clause-usage : goal.returns-in-Err-clause-usage
@@ -30,8 +29,8 @@ returns-in-Err-clause-obeys g c =
     let scratch = scratch_change_of g.S.Scratch.told g.S.Scratch.asked g.S.Scratch.faults c.args.scratch.now c.args.scratch.now in
     let nodes = change_of g.N.NodeStore.files g.N.NodeStore.faults c.args.nodes.now c.args.nodes.now in
     λ command means.
-    let P : Status → Type 0 = λ status. Obeys command input out scratch nodes (Stopped status) in
-    subst P (sym c.status_of_fault.ensures) (obeys_of_fault c.args.words.now c.in-Err.fault c.in-Err.ensures input out scratch nodes (refl, refl) (refl, refl) ((refl, refl), refl) (refl, refl) command means)
+    let P : Status → Type 0 = λ status. IsForgotten input out scratch nodes status in
+    inl (subst P (sym c.status_of_fault.ensures) (forgotten c.args.words.now c.in-Err.fault c.in-Err.ensures input out scratch nodes ((refl, refl), (refl, refl), ((refl, refl), refl)) (refl, refl) command means))
 
 pub returns-in-Ok-clause-usage : goal.returns-in-Ok-clause-usage
 returns-in-Ok-clause-usage g c =
@@ -63,7 +62,7 @@ returns-in-Ok-clause-obeys g c =
     let out = change_of g.O.ByteSink.written g.O.ByteSink.faults c.args.out.now c.obey.new.out in
     let scratch = scratch_change_of g.S.Scratch.told g.S.Scratch.asked g.S.Scratch.faults c.args.scratch.now c.obey.new.scratch in
     let nodes = change_of g.N.NodeStore.files g.N.NodeStore.faults c.args.nodes.now c.obey.new.nodes in
-    obeys_of c.args.words.now c.in-Ok.command c.in-Ok.ensures input out scratch nodes c.obey.result c.obey.ensures.obeys
+    λ command means. inr (obeys_of c.args.words.now c.in-Ok.command c.in-Ok.ensures input out scratch nodes c.obey.result c.obey.ensures.obeys command means)
 
 pub returns-in-Ok-clause-keeps : goal.returns-in-Ok-clause-keeps
 returns-in-Ok-clause-keeps g c =

@@ -1,4 +1,7 @@
+use Rattle.std.proofs.Common.{sym, subst, inl, inr, ⊎_elim}
 use Rattle.dev_traits.specs.Change.{change_of, scratch_change_of}
+use Rattle.svo_top.specs.Doing.{IsForgotten}
+use Rattle.svo_top.specs.declared.outcome.Status.{Status}
 use Rattle.svo_top.proofs.WordCauses.{does}
 use Rattle.svo_top.proofs.running.run.Goals as goal
 
@@ -10,4 +13,7 @@ returns-clause-does g c =
     let nodes = change_of g.N.NodeStore.files g.N.NodeStore.faults c.args.nodes.now c.carry_out-ending.new.nodes in
     let err = change_of g.E.ByteSink.written g.E.ByteSink.faults c.args.err.now c.report.new.err in
     λ command means.
-    does input out scratch nodes err c.carry_out-ending.result c.report.ensures.says c.report.ensures.silent c.status.result c.status.ensures command (c.carry_out-ending.ensures.obeys command means)
+    let Forgotten : Status → Type 0 = λ status. IsForgotten input out scratch nodes status in
+    ⊎_elim (λ forgotten. inl (subst Forgotten (sym c.status.ensures) forgotten))
+    (λ obeys. inr (does input out scratch nodes err c.carry_out-ending.result c.report.ensures.says c.report.ensures.silent c.status.result c.status.ensures command obeys))
+    (c.carry_out-ending.ensures.obeys command means)

@@ -17,7 +17,7 @@ use Rattle.svo_top.specs.declared.outcome.Status.{Status}
 use Rattle.slice_view.specs.Slices.{slice_picture}
 use Rattle.svo_top.specs.Picturing.{Views}
 use Rattle.svo_top.proofs.Asked.{layer_below, views_of, sure_of_view, answers_of, sure_of, kept_told, casts_of, sure_rays, rays_end, unbarred_rays}
-use Rattle.svo_top.proofs.answering.work.Goals as goal
+use Rattle.svo_top.proofs.answering.answer.Goals as goal
 
 pub returns-in-Check-clause-works : goal.returns-in-Check-clause-works
 returns-in-Check-clause-works g c = λ cells keeps.
