@@ -1,9 +1,8 @@
 -- Codes of children, and what becomes of them.
-use Rattle.std.proofs.Common.{◌≡◌, ℕ, suc, ◌+◌, ◌-◌, ◌*◌, ◌^◌, ◌<◌, ◌≤◌, true, false, cond, List, ℤ, Option, None, Some, arith, refl, sym, ap, subst, ◌∙◌, inl, inr, lit≤}
+use Rattle.std.proofs.Common.{◌≡◌, ℕ, suc, ◌+◌, ◌-◌, ◌*◌, ◌^◌, ◌<◌, ◌≤◌, true, false, cond, List, ℤ, Option, arith, refl, sym, ap, subst, ◌∙◌, inl, inr, lit≤}
 use Rattle.std.proofs.Math.Nat.{pow-suc, pow-le-pow_right}
 use Rattle.std.proofs.lemmas.Bool.{cases_Bool}
 use Rattle.svo_base.specs.GridShape.{GridShape, IsGrid}
-use Rattle.octree_specs.specs.Walking.{child_number}
 use Rattle.node_check.specs.Walks.{has_child}
 use Rattle.near_query.specs.Distances.{distance_to}
 use Rattle.near_query.specs.Nodes.{IsNode, IsStep, cell_at, improves_on, is_nearer_than}

@@ -1,5 +1,5 @@
 -- What is known of all cells while nodes wait.
-use Rattle.std.proofs.Common.{◌≡◌, ℕ, zero, suc, ◌+◌, ◌-◌, ◌/◌, ◌^◌, ◌<◌, ◌≤◌, ◌⊎◌, true, false, Bool, cond, List, [], ◌∷◌, ℤ, Option, None, Some, IfSome, arith, refl, ap, subst, sym, ◌∙◌, inl, inr, ⊎_elim, lit≤}
+use Rattle.std.proofs.Common.{◌≡◌, ℕ, zero, suc, ◌+◌, ◌/◌, ◌^◌, ◌<◌, ◌≤◌, ◌⊎◌, true, false, Bool, cond, List, [], ◌∷◌, ℤ, Option, None, Some, arith, refl, ap, subst, sym, ◌∙◌, inl, inr, ⊎_elim, lit≤}
 use Rattle.std.specs.Prelude.{All, nat_le}
 use Rattle.std.specs.List.{Contains}
 use Rattle.std.specs.List.Sorted.{IsPermutation}
@@ -13,7 +13,7 @@ use Rattle.octree_specs.specs.Walking.{HasMasks}
 use Rattle.ray_fraction.specs.Crossings.{count_of}
 use Rattle.near_query.specs.Distances.{distance_to}
 use Rattle.near_query.specs.Frontiers.{IsBeaten, IsFrontier, IsUnder, IsUnderSome}
-use Rattle.near_query.specs.Nearest.{IsFound, IsNearest, IsNearestCell, Leads, closer_of, is_closer}
+use Rattle.near_query.specs.Nearest.{IsNearest, Leads, closer_of, is_closer}
 use Rattle.near_query.specs.Nodes.{IsNode, is_nearer_than}
 use Rattle.near_query.specs.Queues.{ahead_of}
 use Rattle.near_query.specs.declared.cells.NearCell.{NearCell}

@@ -1,7 +1,5 @@
 -- Gaps between a number and an interval.
-use Rattle.std.proofs.Common.{ℕ, ◌+◌, ◌*◌, ◌≤◌, arith, ℤ, pos, ◌-ℤ◌, ◌≤ℤ◌}
-use Rattle.std.specs.Prelude.{unsigned_abs}
-use Rattle.std.specs.Int.{int_max}
+use Rattle.std.proofs.Common.{ℕ, ◌*◌, ◌≤◌, arith, ℤ, pos, ◌-ℤ◌, ◌≤ℤ◌}
 use Rattle.std.proofs.lemmas.Int.{ints, clamps}
 use Rattle.std.proofs.lemmas.Nat.{mul-le}
 use Rattle.near_query.specs.Distances.{gap_of}

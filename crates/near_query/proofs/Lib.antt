@@ -7,6 +7,7 @@ mod Halving
 mod HeapOrder
 mod Intervals
 mod Looping
+mod OneNearest
 mod Seeing
 mod Trees
 mod UnderWay

@@ -1,5 +1,5 @@
 -- A search, node by node.
-use Rattle.std.proofs.Common.{◌≡◌, ℕ, ◌+◌, ◌-◌, ◌*◌, ◌^◌, ◌<◌, ◌≤◌, true, false, List, [], ◌∷◌, ℤ, Option, None, Some, IfSome, IfOk, Result, Ok, Err, arith, ap, subst, sym, ◌∙◌}
+use Rattle.std.proofs.Common.{◌≡◌, ℕ, ◌+◌, ◌-◌, ◌^◌, ◌<◌, ◌≤◌, true, false, List, [], ◌∷◌, ℤ, Option, None, IfSome, Result, Ok, Err, arith, ap, subst, sym, ◌∙◌}
 use Rattle.std.specs.Prelude.{All, slice_index}
 use Rattle.std.specs.Result.{IfErr, IsErr, IsErrAnd}
 use Rattle.std.specs.List.Sorted.{IsPermutation}

@@ -1,6 +1,6 @@
 -- The children of a node one after the other, where words lead to cells.
-use Rattle.std.proofs.Common.{◌≡◌, ℕ, suc, ◌+◌, ◌-◌, ◌*◌, ◌/◌, ◌%◌, ◌^◌, ◌<◌, ◌≤◌, ◌⊎◌, true, false, Bool, cond, List, ◌∷◌, ℤ, Option, None, Some, IfSome, Ok, arith, refl, ap, subst, sym, ◌∙◌, inl, inr, ⊎_elim}
-use Rattle.std.specs.Prelude.{All, nat_lt, ◌||◌}
+use Rattle.std.proofs.Common.{◌≡◌, ℕ, suc, ◌+◌, ◌-◌, ◌*◌, ◌/◌, ◌%◌, ◌^◌, ◌<◌, ◌≤◌, ◌⊎◌, true, false, Bool, cond, List, ◌∷◌, ℤ, Option, None, Some, Ok, arith, refl, ap, subst, sym, ◌∙◌, inl, inr, ⊎_elim}
+use Rattle.std.specs.Prelude.{nat_lt}
 use Rattle.std.specs.List.{Contains}
 use Rattle.std.specs.List.Sorted.{IsPermutation}
 use Rattle.std.proofs.lemmas.Bool.{cases_lt, or_cases, or_parts}
@@ -11,7 +11,7 @@ use Rattle.svo_base.specs.GridShape.{GridShape}
 use Rattle.octree_specs.specs.Cells.{Cell, codes_of}
 use Rattle.octree_specs.specs.Formats.{face_leaves}
 use Rattle.octree_specs.specs.Octree.{is_nonempty}
-use Rattle.octree_specs.specs.Walking.{HasMasks, child_number}
+use Rattle.octree_specs.specs.Walking.{HasMasks}
 use Rattle.octree_laws.proofs.Maps.{filled_in}
 use Rattle.octree_laws.proofs.Under.{div-up}
 use Rattle.node_check.specs.Walks.{has_child}

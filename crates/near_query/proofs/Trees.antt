@@ -1,6 +1,6 @@
 -- The words of a tree, node by node.
-use Rattle.std.proofs.Common.{◌≡◌, ℕ, zero, suc, ◌+◌, ◌-◌, ◌*◌, ◌/◌, ◌%◌, ◌^◌, ◌<◌, ◌≤◌, true, List, length, Some, IfSome, arith, sym, ap, subst, ◌∙◌}
-use Rattle.std.specs.Prelude.{slice_index, All}
+use Rattle.std.proofs.Common.{◌≡◌, ℕ, zero, suc, ◌+◌, ◌-◌, ◌*◌, ◌/◌, ◌^◌, ◌<◌, ◌≤◌, true, List, length, IfSome, arith, sym, ap, subst, ◌∙◌}
+use Rattle.std.specs.Prelude.{slice_index}
 use Rattle.std.specs.List.{Contains}
 use Rattle.std.proofs.lemmas.List.Elements.{All-contains, All-map}
 use Rattle.octree_specs.specs.Cells.{Cell, codes_of}

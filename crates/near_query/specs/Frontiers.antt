@@ -1,5 +1,5 @@
 -- What a walk over words that stand for cells has seen, and what is ahead of it.
-use Rattle.std.specs.Prelude.{◌≡◌, ℕ, ◌+◌, ◌-◌, ◌/◌, ◌%◌, ◌^◌, ◌≤◌, ◌⊎◌, Bool, cond, slice_index, List, All, ℤ, Option, None, Some, IfSome, IfOk, OnOk, Result}
+use Rattle.std.specs.Prelude.{◌≡◌, ℕ, ◌+◌, ◌/◌, ◌^◌, ◌≤◌, ◌⊎◌, Bool, cond, slice_index, List, All, ℤ, Option, None, Some, IfSome, IfOk, OnOk, Result}
 use Rattle.std.specs.List.{Contains}
 use Rattle.std.specs.Result.{IfErr}
 use Rattle.svo_base.specs.GridShape.{GridShape}

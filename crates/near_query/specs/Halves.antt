@@ -1,6 +1,5 @@
 -- Squares of gaps to halves of a cube.
 use Rattle.std.specs.Prelude.{◌≡◌, ℕ, ◌+◌, ◌*◌, ◌/◌, ◌%◌, ◌^◌, ◌<◌, ◌≤◌, ◌==◌, cond, List, ℤ, pos, ◌+ℤ◌, unsigned_abs}
-use Rattle.std.specs.List.{slice_index_or}
 use Rattle.svo_base.specs.GridShape.{GridShape}
 use Rattle.ray_fraction.specs.Crossings.{box_of}
 use Rattle.near_query.specs.Distances.{along, gap_of}

@@ -4,6 +4,7 @@
 
 mod cells;
 mod gaps;
+mod laws;
 mod measures;
 mod queues;
 mod searching;
@@ -11,6 +12,8 @@ mod steps;
 mod walking;
 
 pub use cells::{NearCell, NearFault};
+pub use laws::nearest_cells_are_one;
+pub use measures::is_in_reach;
 pub use searching::{Search, near};
 
 #[cfg(test)]

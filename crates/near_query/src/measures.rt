@@ -1,6 +1,6 @@
 //! Distances of nodes from a point.
 
-ghost use Rattle.std.specs.Prelude.{◌≡◌, ℕ, ◌+◌, ◌-◌, ◌*◌, ◌<◌, ◌≤◌, ◌^◌, List, ℤ};
+ghost use Rattle.std.specs.Prelude.{◌≡◌, ◌↔◌, true, ℕ, ◌+◌, ◌-◌, ◌*◌, ◌<◌, ◌≤◌, ◌^◌, List, ℤ};
 ghost use Rattle.svo_base.specs.GridShape.{GridShape};
 ghost use Rattle.octree_specs.specs.Meeting.{HasPlanes};
 ghost use Rattle.near_query.specs.Distances.{IsPoint, along, distance_of, distance_to};
@@ -78,4 +78,11 @@ pub fn distance(point: &[i64; 3], cube: &Cube) -> u128
     square(Interval::across(cube, 0).gap(point, 0))
         + square(Interval::across(cube, 1).gap(point, 1))
         + square(Interval::across(cube, 2).gap(point, 2))
+}
+
+/// Whether the components of a point have a size of at most 2^40, as searches ask of it.
+pub fn is_in_reach(point: &[i64; 3]) -> bool
+    ensures { (result ≡ true) ↔ IsPoint point.now }
+{
+    point.iter().all(|at| at.unsigned_abs() <= 1 << 40)
 }

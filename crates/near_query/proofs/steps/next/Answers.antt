@@ -1,5 +1,4 @@
-use Rattle.std.proofs.Common.{◌≡◌, ◌+◌, ◌-◌, ◌*◌, arith, sym, ◌∙◌, refl}
-use Rattle.near_query.specs.Distances.{distance_to}
+use Rattle.std.proofs.Common.{◌-◌, arith, sym, ◌∙◌, refl}
 use Rattle.near_query.proofs.Codes.{cell_step, child_inside, code_small}
 use Rattle.near_query.proofs.steps.next.Goals as goal
 

@@ -1,5 +1,4 @@
 use Rattle.std.proofs.Common.{◌∷◌, map, subst}
-use Rattle.std.specs.Prelude.{OnOk}
 use Rattle.std.specs.List.Sorted.{IsPermutation}
 use Rattle.std.specs.BinaryHeap.{heap_items}
 use Rattle.std.specs.declared.cmp.Reverse.{Reverse}
