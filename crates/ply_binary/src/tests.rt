@@ -103,7 +103,7 @@ fn a_refused_read_is_answered_and_leaves_the_text(rt: HostRuntime) {
     let mut block = [0; 2048];
     let mut source = AsciiSource::new(&mut input, &mut block);
     let mut room = [0; 64];
-    let mut refused = 0;
+    let mut refused: u32 = 0;
     let mut left = text;
     for _ in 0..40 {
         match source.read(&mut room) {
@@ -114,7 +114,7 @@ fn a_refused_read_is_answered_and_leaves_the_text(rt: HostRuntime) {
                 );
                 left = &left[count..];
             }
-            Err(_) => refused += 1,
+            Err(_) => refused = refused.saturating_add(1),
         }
     }
     assert_eq!(rt; refused, 3, "refused reads");
