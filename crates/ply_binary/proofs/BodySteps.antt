@@ -1,6 +1,5 @@
 -- The steps through a body, each of which leaves what is to come as it is.
-use Rattle.std.proofs.Common.{◌≡◌, ℕ, zero, suc, ◌+◌, ◌-◌, ◌<◌, ◌≤◌, ◌⊎◌, inl, inr, Bool, false, if◌then◌else◌, List, [], ◌∷◌, ◌++◌, length, take, drop, slice_range, slice_index_or, refl, sym, ap, ◌∙◌, subst, arith, Option, None, Some, nat_lt, append_assoc, length-append, take_at, drop_at}
-use Rattle.std.proofs.Math.Seq.{slice-cons}
+use Rattle.std.proofs.Common.{◌≡◌, ℕ, zero, suc, ◌+◌, ◌-◌, ◌<◌, ◌≤◌, inl, inr, Bool, false, if◌then◌else◌, List, [], ◌∷◌, ◌++◌, length, take, drop, slice_range, slice_index_or, refl, sym, ap, ◌∙◌, arith, None, Some, nat_lt, append_assoc, length-append, take_at, drop_at}
 use Rattle.std.proofs.lemmas.List.{drop_all}
 use Rattle.std.proofs.lemmas.List.Folds.{drop_split}
 use Rattle.std.proofs.lemmas.Grind.{common_steps}
@@ -8,13 +7,13 @@ use Rattle.std.proofs.lemmas.Bool.Decides.{nat_tests}
 use Rattle.ply_reader.specs.declared.elements.Element.{Element}
 use Rattle.ply_reader.specs.declared.properties.Property.{Property}
 use Rattle.ply_reader.specs.declared.properties.Scalar.{Scalar}
-use Rattle.ply_reader.specs.Declarations.{Declared, properties_of, is_coordinate}
+use Rattle.ply_reader.specs.Declarations.{Declared, is_coordinate}
 use Rattle.ply_binary.specs.declared.body.Body.{Body}
 use Rattle.ply_binary.specs.declared.body.Due.{Due}
 use Rattle.ply_binary.specs.declared.body.Kind.{Kind}
 use Rattle.ply_binary.specs.declared.body.Kind.TheVariants.{Item, Single, Count}
-use Rattle.ply_binary.specs.Values.{size_of, number_of, token_of, is_negative}
-use Rattle.ply_binary.specs.Bodies.{Rewrite, nothing, with_value, value_then, values_then, list_then, counted_then, property_then, row_then, rows_then, elements_then, end_text, body_text}
+use Rattle.ply_binary.specs.Values.{size_of, number_of, token_of}
+use Rattle.ply_binary.specs.Bodies.{Rewrite, with_value, value_then, values_then, list_then, counted_then, property_then, row_then, rows_then, elements_then, end_text}
 use Rattle.ply_binary.specs.BodyStates.{IsIn, HasValue, IsBetween, HasNoRow, HasRow, body_left, row_left, rows_left, elements_left, begun_row, begun_at, begun_element, IsAt, IsDue, due_left, passed, is_last, is_coordinate_kind, unless_over}
 
 -- rows without properties give nothing

@@ -1,5 +1,5 @@
 -- Bytes that are held, read after read.
-use Rattle.std.proofs.Common.{◌≡◌, ℕ, ◌+◌, ◌-◌, ◌≤◌, List, [], ◌++◌, length, Option, None, Some, refl, sym, ap, ◌∙◌, arith, append_assoc, append-nil, length-append}
+use Rattle.std.proofs.Common.{◌≡◌, ℕ, ◌≤◌, List, [], ◌++◌, length, Option, None, Some, refl, sym, ap, ◌∙◌, arith, append_assoc, append-nil, length-append}
 use Rattle.std.specs.Io.KnownBytes.{prepend_known}
 use Rattle.dev_traits.specs.declared.device.ByteSource.{Ghosts}
 use Rattle.ply_binary.specs.declared.held.Held.{Held}

@@ -16,7 +16,7 @@ use Rattle.ply_binary.specs.declared.source.Stage.TheVariants.{Head, Over}
 use Rattle.dev_traits.specs.Contents.{TakesFront}
 use Rattle.ply_binary.proofs.HeldBytes.{known_none}
 use Rattle.ply_binary.specs.HeldStates.{held, HoldsMore}
-use Rattle.ply_binary.specs.SourceStates.{left_by, text_behind, source_rest, IsBehindHead, SameLent, Gives, Moves}
+use Rattle.ply_binary.specs.SourceStates.{left_by, text_behind, source_rest, IsBehindHead, SameLent, Moves}
 
 empty_parts : (xs ys : List ℕ) → [] ≡ xs ++ ys → (xs ≡ []) × (ys ≡ [])
 empty_parts [] ys is = (refl, sym is)

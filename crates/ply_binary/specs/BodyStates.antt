@@ -2,7 +2,6 @@
 use Rattle.std.specs.Prelude.{◌≡◌, ℕ, ◌+◌, ◌-◌, ◌<◌, ◌≤◌, Bool, false, true, ◌&&◌, ◌⊎◌, if◌then◌else◌, List, [], ◌++◌, length, drop, slice_range, slice_index_or, ⊤}
 use Rattle.ply_reader.specs.declared.elements.Element.{Element}
 use Rattle.ply_reader.specs.declared.elements.Role.TheVariants.{Other}
-use Rattle.ply_reader.specs.declared.properties.Scalar.{Scalar}
 use Rattle.ply_reader.specs.Declarations.{Declared}
 use Rattle.ply_binary.specs.declared.body.Body.{Body}
 use Rattle.ply_binary.specs.declared.body.Due.{Due}

@@ -1,5 +1,5 @@
 -- The bytes that are held, and what a call does to them.
-use Rattle.std.specs.Prelude.{◌≡◌, ℕ, ◌+◌, List, ◌++◌, length, drop, slice_range}
+use Rattle.std.specs.Prelude.{◌≡◌, ℕ, List, ◌++◌, drop, slice_range}
 use Rattle.std.specs.Io.KnownBytes.{prepend_known}
 use Rattle.dev_traits.specs.declared.device.ByteSource.{Ghosts}
 use Rattle.ply_binary.specs.declared.held.Held.{Held}

@@ -9,7 +9,7 @@ use Rattle.ply_binary.specs.declared.lines.Format.{Format}
 use Rattle.ply_binary.specs.declared.lines.Format.TheVariants.{Unsaid, Binary, Other}
 use Rattle.ply_binary.specs.declared.lines.ShownLine.{ShownLine}
 use Rattle.ply_binary.specs.declared.source.Stage.{Stage}
-use Rattle.ply_binary.specs.declared.source.Stage.TheVariants.{Head, Values, Plain, Over}
+use Rattle.ply_binary.specs.declared.source.Stage.TheVariants.{Head, Values, Plain}
 use Rattle.ply_binary.specs.HeaderTexts.{Shown, is_format, is_binary, ascii_line, ascii_with, header_left, taken_line}
 
 -- what a line says of the format

@@ -3,7 +3,6 @@ use Rattle.std.specs.Prelude.{◌≡◌, ℕ, ◌<◌, ◌≤◌, ◌⊎◌, Lis
 use Rattle.std.specs.Option.{option_map}
 use Rattle.dev_traits.specs.declared.device.ByteSource.{Ghosts}
 use Rattle.ply_reader.specs.Declarations.{Declared, declared}
-use Rattle.ply_reader.specs.declared.fault.PlyKind.{PlyKind}
 use Rattle.ply_binary.specs.declared.body.Body.{Body}
 use Rattle.ply_binary.specs.declared.source.AsciiSource.{AsciiSource}
 use Rattle.ply_binary.specs.declared.source.Stage.{Stage}

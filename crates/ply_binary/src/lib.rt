@@ -12,3 +12,6 @@ mod waiting;
 mod words;
 
 pub use source::AsciiSource;
+
+#[cfg(test)]
+mod tests;

@@ -1,4 +1,4 @@
-use Rattle.std.proofs.Common.{◌≡◌, ◌+◌, ◌≤◌, ◌∙◌, ◌∷◌, ◌&&◌, [], refl, ap, sym, arith, length, codes}
+use Rattle.std.proofs.Common.{◌≡◌, ◌∙◌, ◌∷◌, ◌&&◌, refl, ap, arith, length, codes}
 use Rattle.std.specs.Str.{bytes_eq}
 use Rattle.ply_binary.specs.HeaderTexts.{is_binary, behind_word}
 use Rattle.ply_binary.proofs.LineWords.{two_words, word_sizes, tested_equal}

@@ -1,6 +1,6 @@
-use Rattle.std.proofs.Common.{◌≡◌, ◌+◌, ◌≤◌, ◌++◌, ◌∙◌, ℕ, List, length, take, drop, slice_range, ap, sym, subst, arith, append_assoc}
+use Rattle.std.proofs.Common.{◌+◌, ◌≤◌, ◌++◌, ◌∙◌, length, take, drop, slice_range, ap, sym, subst, arith, append_assoc}
 use Rattle.ply_reader.specs.Declarations.{declared}
-use Rattle.ply_binary.specs.Values.{size_of, number_of, token_of}
+use Rattle.ply_binary.specs.Values.{number_of, token_of}
 use Rattle.ply_binary.specs.BodyStates.{IsIn, body_left, passed, is_coordinate_kind, unless_over}
 use Rattle.ply_binary.proofs.BodySteps.{passed_in, value_taken}
 use Rattle.ply_binary.proofs.rewriting.rewrite.Goals as goal

@@ -1,6 +1,5 @@
-use Rattle.std.proofs.Common.{◌≡◌, ◌∷◌, ◌+◌, ◌<◌, ◌∙◌, ap, sym, subst, arith, inl, inr, ◌⊎◌, slice_range, Option, Some, None, Bool}
-use Rattle.ply_reader.specs.Declarations.{declared, is_coordinate}
-use Rattle.ply_reader.specs.declared.properties.Property.{Property}
+use Rattle.std.proofs.Common.{◌≡◌, sym, subst, arith, Bool}
+use Rattle.ply_reader.specs.Declarations.{declared}
 use Rattle.ply_binary.specs.declared.body.Kind.TheVariants.{Single}
 use Rattle.ply_binary.specs.BodyStates.{IsDue}
 use Rattle.ply_binary.proofs.BodySteps.{item_due, single_due, count_due, next_property}

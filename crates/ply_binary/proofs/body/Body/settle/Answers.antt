@@ -1,6 +1,5 @@
-use Rattle.std.proofs.Common.{◌≡◌, refl, ap, ◌∙◌, sym, subst}
+use Rattle.std.proofs.Common.{refl, ap, ◌∙◌, sym, subst}
 use Rattle.ply_reader.specs.Declarations.{declared}
-use Rattle.ply_binary.specs.declared.body.Body.{Body}
 use Rattle.ply_binary.specs.BodyStates.{IsBetween, body_left}
 use Rattle.ply_binary.proofs.BodySteps.{element_begun, body_ended, row_begun, element_between}
 use Rattle.ply_binary.proofs.body.Body.settle.Goals as goal

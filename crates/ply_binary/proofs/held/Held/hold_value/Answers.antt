@@ -1,4 +1,4 @@
-use Rattle.std.proofs.Common.{◌≤◌, arith}
+use Rattle.std.proofs.Common.{arith}
 use Rattle.ply_binary.proofs.HeldBytes.{HoldsMore-trans}
 use Rattle.ply_binary.proofs.held.Held.hold_value.Goals as goal
 

@@ -1,4 +1,4 @@
-use Rattle.std.proofs.Common.{◌≤◌, ◌-◌, length}
+use Rattle.std.proofs.Common.{◌≤◌, ◌-◌}
 use Rattle.ply_binary.specs.HeldStates.{HoldsMore}
 use Rattle.ply_binary.proofs.held.Held.hold_value.Given as goal
 

@@ -1,6 +1,5 @@
-use Rattle.std.proofs.Common.{◌≡◌, ◌<◌, ◌≤◌, ◌++◌, ◌∷◌, ◌∙◌, [], refl, ap, sym, subst, length, take, drop, slice_set, arith, List, ℕ}
+use Rattle.std.proofs.Common.{◌<◌, ◌++◌, ◌∙◌, [], ap, sym, length, take, drop, slice_set, arith}
 use Rattle.ply_reader.specs.Declarations.{declared}
-use Rattle.ply_binary.specs.BodyStates.{body_left}
 use Rattle.ply_binary.specs.HeldStates.{held}
 use Rattle.ply_binary.specs.SourceStates.{left_by}
 use Rattle.ply_binary.proofs.SourceMoves.{mark_left, mark_put}

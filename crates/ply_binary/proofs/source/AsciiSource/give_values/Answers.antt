@@ -1,4 +1,4 @@
-use Rattle.std.proofs.Common.{◌≡◌, ◌++◌, ◌∙◌, [], refl, ap, sym, take, List, ℕ}
+use Rattle.std.proofs.Common.{◌++◌, ◌∙◌, refl, ap, sym, take}
 use Rattle.ply_reader.specs.Declarations.{declared}
 use Rattle.ply_binary.specs.HeldStates.{held}
 use Rattle.ply_binary.specs.SourceStates.{left_by}

@@ -1,4 +1,4 @@
-use Rattle.std.proofs.Common.{◌≡◌, ◌≤◌, ◌+◌, ◌∙◌, min, sym, ap, subst, refl, arith, length, take, List, ℕ, true, false}
+use Rattle.std.proofs.Common.{◌≡◌, ◌+◌, ◌∙◌, min, sym, ap, subst, refl, arith, length, take, List, ℕ, true, false}
 use Rattle.std.specs.List.{prefix_len}
 use Rattle.std.proofs.lemmas.List.Sums.{prefix_len-le-length}
 use Rattle.ply_text.specs.declared.run.Run.TheVariants.{Line}

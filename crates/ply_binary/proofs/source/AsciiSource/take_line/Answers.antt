@@ -1,7 +1,6 @@
-use Rattle.std.proofs.Common.{◌≡◌, ◌≤◌, ◌+◌, ◌^◌, ◌∙◌, min, sym, ap, subst, refl, arith, length, take, drop, List, ℕ}
+use Rattle.std.proofs.Common.{◌≡◌, ◌+◌, ◌∙◌, min, ap, arith, length}
 use Rattle.ply_reader.specs.Declarations.{declared}
 use Rattle.ply_binary.specs.HeldStates.{held}
-use Rattle.ply_binary.specs.SourceStates.{left_by}
 use Rattle.ply_binary.proofs.source.AsciiSource.take_line.Goals as goal
 
 pub invariant_of-self-2 : goal.invariant_of-self-2

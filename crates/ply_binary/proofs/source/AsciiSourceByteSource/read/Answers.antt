@@ -1,7 +1,7 @@
-use Rattle.std.proofs.Common.{◌≡◌, ◌++◌, ◌∙◌, [], refl, ap, sym, take, append_assoc, List, ℕ}
+use Rattle.std.proofs.Common.{◌++◌, ◌∙◌, refl, ap, sym, take, append_assoc}
 use Rattle.ply_reader.specs.Declarations.{declared}
 use Rattle.ply_binary.specs.HeldStates.{held}
-use Rattle.ply_binary.specs.SourceStates.{left_by, source_rest}
+use Rattle.ply_binary.specs.SourceStates.{left_by}
 use Rattle.ply_binary.proofs.SourceMoves.{moves_on, moves_given, moves_front, moves_after, same_rest, takes, match_err, none_of, some_of, over_end}
 use Rattle.ply_binary.proofs.source.AsciiSourceByteSource.read.Goals as goal
 

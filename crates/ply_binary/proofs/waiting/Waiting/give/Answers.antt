@@ -1,4 +1,4 @@
-use Rattle.std.proofs.Common.{◌≡◌, ◌+◌, ◌-◌, ◌≤◌, min, length, take, drop, arith, ap, ◌∙◌, sym}
+use Rattle.std.proofs.Common.{◌-◌, min, length, take, drop, ap, ◌∙◌, sym}
 use Rattle.ply_binary.proofs.LineWords.{gave_front}
 use Rattle.ply_binary.proofs.waiting.Waiting.give.Goals as goal
 
