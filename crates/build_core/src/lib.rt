@@ -18,5 +18,3 @@ pub use jobs::{Built, GridChoice, Job};
 
 #[cfg(test)]
 mod nodes_tests;
-#[cfg(test)]
-mod tests;

@@ -31,6 +31,4 @@ pub use scales::Scale;
 pub use whole_mesh::{MeshFault, WholeMesh, read_mesh};
 
 #[cfg(test)]
-mod header_tests;
-#[cfg(test)]
 mod tests;

@@ -25,26 +25,3 @@ mod summing;
 pub use laws::answers_are_one;
 pub use outcome::{Device, InputKind, NodeRefusal, RangeFault, Status, UsageKind};
 pub use running::run;
-
-#[cfg(test)]
-mod error_output_tests;
-#[cfg(test)]
-mod failing_tests;
-#[cfg(test)]
-mod file_tests;
-#[cfg(test)]
-mod keep_tests;
-#[cfg(test)]
-mod made_tests;
-#[cfg(test)]
-mod memory_runs;
-#[cfg(test)]
-mod mesh_tests;
-#[cfg(test)]
-mod picture_tests;
-#[cfg(test)]
-mod question_tests;
-#[cfg(test)]
-mod tests;
-#[cfg(test)]
-mod words_tests;

@@ -23,8 +23,3 @@ pub use made::{MakeWords, SumWords};
 pub use nodes::{CastWords, CellsWords, CheckWords, HasWords, LiftWords};
 pub use pictures::{SliceWords, ViewWords};
 pub use why::WhyWords;
-
-#[cfg(test)]
-mod command_tests;
-#[cfg(test)]
-mod tests;

@@ -1,0 +1,278 @@
+//! The lines of a table, as they are written down.
+
+use serde::Deserialize;
+
+/// A line of the table.
+#[derive(Drop, Deserialize)]
+#[serde(rename_all = "snake_case")]
+pub enum Entry {
+    /// Bytes with a name, for the lines behind this one.
+    Bytes(NamedBytes),
+    /// A worked row.
+    Row(Row),
+}
+
+/// Bytes with a name.
+#[derive(Drop, Deserialize)]
+#[serde(deny_unknown_fields)]
+pub struct NamedBytes {
+    pub name: String,
+    pub are: Bytes,
+}
+
+/// Bytes: those of a name, those of a name with changes, or bytes that are spelled out.
+#[derive(Drop, Deserialize)]
+#[serde(untagged)]
+pub enum Bytes {
+    Name(String),
+    Changed(Changed),
+    Spelled(Spelling),
+}
+
+/// The bytes of a name, with changes, made one behind the other.
+#[derive(Drop, Deserialize)]
+#[serde(deny_unknown_fields)]
+pub struct Changed {
+    pub of: String,
+    pub changes: Vec<Change>,
+}
+
+/// A change of bytes.
+#[derive(Drop, Deserialize)]
+#[serde(rename_all = "snake_case")]
+pub enum Change {
+    /// Only so many of the first bytes are left.
+    Cut(usize),
+    /// Other bytes stand at a place.
+    Put(Placed),
+    /// The word of this number, of a node file, is another.
+    Word(Numbered),
+    /// A text stands behind them, so many times.
+    Add(Added),
+    /// A line, counted from 1, stands so many times.
+    Repeat(Repeated),
+}
+
+/// Bytes in hexadecimal digits, and their place.
+#[derive(Drop, Deserialize)]
+#[serde(deny_unknown_fields)]
+pub struct Placed {
+    pub at: usize,
+    pub hex: String,
+}
+
+/// A word of a node file.
+#[derive(Drop, Deserialize)]
+#[serde(deny_unknown_fields)]
+pub struct Numbered {
+    pub number: usize,
+    pub is: u64,
+}
+
+/// A text, and how often it stands.
+#[derive(Drop, Deserialize)]
+#[serde(deny_unknown_fields)]
+pub struct Added {
+    pub text: String,
+    #[serde(default = "once")]
+    pub times: u64,
+}
+
+/// A line, and how often it stands.
+#[derive(Drop, Deserialize)]
+#[serde(deny_unknown_fields)]
+pub struct Repeated {
+    pub line: u64,
+    pub times: u64,
+}
+
+/// Bytes that are spelled out, or that a run gave or got.
+#[derive(Drop, Deserialize)]
+#[serde(rename_all = "snake_case")]
+pub enum Spelling {
+    /// A text.
+    Text(String),
+    /// Lines, each ended by LF.
+    Lines(Vec<String>),
+    /// Lines, each ended by CR and LF.
+    CrlfLines(Vec<String>),
+    /// A mesh in whole numbers.
+    Mesh(MeshLines),
+    /// Hexadecimal digits; blanks between them count for nothing.
+    Hex(String),
+    /// A node file.
+    Nodes(NodeWords),
+    /// Numbers of four bytes, little-endian.
+    Ints(Vec<i32>),
+    /// What an earlier row put out.
+    OutOf(String),
+    /// The row's own input, or the named file of its own store, as it is in this run.
+    Given(String),
+}
+
+/// The lines of vertices and faces of a mesh.
+#[derive(Drop, Deserialize)]
+#[serde(deny_unknown_fields)]
+pub struct MeshLines {
+    pub vertices: Vec<String>,
+    pub faces: Vec<String>,
+}
+
+/// What a node file holds.
+#[derive(Drop, Deserialize)]
+#[serde(deny_unknown_fields)]
+pub struct NodeWords {
+    pub format: u8,
+    pub depth: u32,
+    pub origin: Vec<i64>,
+    pub cell: i64,
+    pub words: Vec<u64>,
+    pub cells: u64,
+}
+
+/// A run of the program, or many, and what must come.
+#[derive(Drop, Deserialize)]
+#[serde(deny_unknown_fields)]
+pub struct Row {
+    pub name: String,
+    pub run: CommandLine,
+    pub input: Option<Bytes>,
+    #[serde(default = "usual_piece")]
+    pub piece: usize,
+    #[serde(default = "usual_room")]
+    pub room: usize,
+    #[serde(default = "usual_streams")]
+    pub streams: u32,
+    #[serde(default = "usual_stream_room")]
+    pub stream_room: usize,
+    #[serde(default)]
+    pub refuses: Vec<Refusal>,
+    #[serde(default)]
+    pub files: Vec<NamedBytes>,
+    pub sweep: Option<Sweep>,
+    pub runs: Option<u64>,
+    pub want: Want,
+    pub or: Option<Want>,
+    pub then: Option<Want>,
+}
+
+/// The words of a command: a line with a space between each two of them, or a list.
+#[derive(Drop, Deserialize)]
+#[serde(untagged)]
+pub enum CommandLine {
+    Line(String),
+    Words(Vec<String>),
+}
+
+/// A call of a device, counted from 1, that is refused, and how many bytes it takes first.
+#[derive(Clone, Copy, Deserialize)]
+#[serde(deny_unknown_fields)]
+pub struct Refusal {
+    pub device: Device,
+    pub call: u64,
+    #[serde(default)]
+    pub taken: u64,
+}
+
+/// A device of a run.
+#[derive(Clone, Copy, Debug, PartialEq, Eq, Deserialize)]
+#[serde(rename_all = "snake_case")]
+pub enum Device {
+    Read,
+    Out,
+    Err,
+    Scratch,
+    Nodes,
+}
+
+/// What changes from run to run of a row.
+#[derive(Drop, Deserialize)]
+#[serde(rename_all = "snake_case")]
+pub enum Sweep {
+    /// Call 1, 2 and on of a device is refused, until a run in which the device refuses none.
+    Calls(CallSweep),
+    /// The input, or a file, is cut to each length of a range.
+    Cuts(CutSweep),
+    /// Each byte of the input, or of a file, is each other value.
+    EachByte(String),
+    /// A read gives at most so many bytes.
+    Pieces(Vec<usize>),
+    /// An option more in the command line, each of a list in turn.
+    Words(Vec<String>),
+}
+
+/// The calls of a device, and how many bytes a refused one takes.
+#[derive(Drop, Deserialize)]
+#[serde(deny_unknown_fields)]
+pub struct CallSweep {
+    pub device: Device,
+    pub taken: Vec<u64>,
+}
+
+/// Lengths, the last one of them included.
+#[derive(Drop, Deserialize)]
+#[serde(deny_unknown_fields)]
+pub struct CutSweep {
+    pub of: String,
+    pub from: usize,
+    pub to: usize,
+}
+
+/// What must come of a run.
+#[derive(Drop, Deserialize)]
+#[serde(deny_unknown_fields)]
+pub struct Want {
+    pub status: u8,
+    pub err: Option<String>,
+    pub err_front: Option<String>,
+    pub err_begins: Option<String>,
+    pub out: Option<Bytes>,
+    pub out_front: Option<Bytes>,
+    pub out_sha256: Option<String>,
+    pub left: Option<u64>,
+    pub calls: Option<Calls>,
+    #[serde(default)]
+    pub streams: Vec<Stream>,
+    pub place: Option<String>,
+}
+
+/// How many calls each device had.
+#[derive(Clone, Copy, Deserialize)]
+#[serde(deny_unknown_fields)]
+pub struct Calls {
+    pub read: Option<u64>,
+    pub out: Option<u64>,
+    pub err: Option<u64>,
+    pub scratch: Option<u64>,
+    pub nodes: Option<u64>,
+}
+
+/// What a stream of the scratch holds: these records, in this order or in any.
+#[derive(Drop, Deserialize)]
+#[serde(deny_unknown_fields)]
+pub struct Stream {
+    pub stream: u32,
+    #[serde(default)]
+    pub in_any_order: bool,
+    pub records: Vec<Vec<i32>>,
+}
+
+fn once() -> u64 {
+    1
+}
+
+fn usual_piece() -> usize {
+    4096
+}
+
+fn usual_room() -> usize {
+    65_536
+}
+
+fn usual_streams() -> u32 {
+    9
+}
+
+fn usual_stream_room() -> usize {
+    4096
+}

@@ -1,0 +1,24 @@
+//! Why a row cannot be run.
+
+use std::alloc::{AllocError, AllocFailed};
+
+/// Why a line of the table cannot be taken, or a row of it not be run.
+#[derive(Debug, Drop)]
+pub enum RowFault {
+    /// There was not enough memory.
+    Memory,
+    /// The line is no entry, or does not fit the ones before.
+    Malformed(String),
+}
+
+impl From<AllocError> for RowFault {
+    fn from(_error: AllocError) -> RowFault {
+        RowFault::Memory
+    }
+}
+
+impl<T: Drop> From<AllocFailed<T>> for RowFault {
+    fn from(_error: AllocFailed<T>) -> RowFault {
+        RowFault::Memory
+    }
+}
