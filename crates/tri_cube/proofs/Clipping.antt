@@ -14,7 +14,7 @@ use Rattle.tri_cube.specs.declared.prepared.Form.TheVariants.{Near, Wide}
 use Rattle.tri_cube.specs.declared.small.NearForm.{NearForm}
 use Rattle.tri_cube.specs.declared.wide.WideForm.{WideForm}
 use Rattle.tri_cube.specs.Boxes.{extents_in_order, extents_miss}
-use Rattle.tri_cube.specs.Extents.{Span, span_of, spans_miss, cube_span}
+use Rattle.tri_cube.specs.Extents.{ExtentShape, extent_of, shapes_miss, cube_extent}
 use Rattle.tri_cube.specs.Near.{are_apart, clip, clip_box, clipped, is_passed, is_passed_by, is_small, moved, passes}
 use Rattle.tri_cube.specs.Planes.{plane_form}
 use Rattle.tri_cube.specs.Prepared.{IsForm}
@@ -46,7 +46,7 @@ point_moved : (w0 w1 w2 : ℕ) (a b c : ℤ) → weights_of w0 w1 w2 (a -ℤ a) 
 point_moved w0 w1 w2 a b c =
     omega (arith, ints, whole w0 w1 w2 a, *ℤ--ℤ (pos w0) a a, *ℤ--ℤ (pos w1) b a, *ℤ--ℤ (pos w2) c a)
 
-abbrev IsIn : ℕ → ℕ → ℕ → ℤ → ℤ → ℤ → Span → Type 0
+abbrev IsIn : ℕ → ℕ → ℕ → ℤ → ℤ → ℤ → ExtentShape → Type 0
 IsIn w0 w1 w2 a b c s =
     ((pos (w0 + w1 + w2) *ℤ s.low) ≤ℤ weights_of w0 w1 w2 a b c) × (weights_of w0 w1 w2 a b c ≤ℤ (pos (w0 + w1 + w2) *ℤ s.high))
 
@@ -62,18 +62,18 @@ below_both t p x y h k =
     (λ less. let is : int_min x y ≡ y = omega (arith, ints, clamps, less) in rw is k)
     (λ most. let is : int_min x y ≡ x = omega (arith, ints, clamps, most) in rw is h)
 
-clip_in : (w0 w1 w2 : ℕ) (a b c : ℤ) (s : Span) → IsIn w0 w1 w2 a b c s → IsIn w0 w1 w2 (a -ℤ a) (b -ℤ a) (c -ℤ a) (clip (span_of a b c) a s)
+clip_in : (w0 w1 w2 : ℕ) (a b c : ℤ) (s : ExtentShape) → IsIn w0 w1 w2 a b c s → IsIn w0 w1 w2 (a -ℤ a) (b -ℤ a) (c -ℤ a) (clip (extent_of a b c) a s)
 clip_in w0 w1 w2 a b c s is =
-    let bounds = span_of a b c in
+    let bounds = extent_of a b c in
     let low = above_both (w0 + w1 + w2) (weights_of w0 w1 w2 a b c) s.low bounds.low is.0 (from_least w0 w1 w2 a b c bounds.low (omega (arith, ints, clamps)) (omega (arith, ints, clamps)) (omega (arith, ints, clamps))) in
     let high = below_both (w0 + w1 + w2) (weights_of w0 w1 w2 a b c) s.high bounds.high is.1 (to_greatest w0 w1 w2 a b c bounds.high (omega (arith, ints, clamps)) (omega (arith, ints, clamps)) (omega (arith, ints, clamps))) in (
       omega (arith, ints, low, point_moved w0 w1 w2 a b c, *ℤ--ℤ (pos (w0 + w1 + w2)) (int_max s.low bounds.low) a),
       omega (arith, ints, high, point_moved w0 w1 w2 a b c, *ℤ--ℤ (pos (w0 + w1 + w2)) (int_min s.high bounds.high) a),
     )
 
-in_clip : (w0 w1 w2 : ℕ) (a b c : ℤ) (s : Span) → IsIn w0 w1 w2 (a -ℤ a) (b -ℤ a) (c -ℤ a) (clip (span_of a b c) a s) → IsIn w0 w1 w2 a b c s
+in_clip : (w0 w1 w2 : ℕ) (a b c : ℤ) (s : ExtentShape) → IsIn w0 w1 w2 (a -ℤ a) (b -ℤ a) (c -ℤ a) (clip (extent_of a b c) a s) → IsIn w0 w1 w2 a b c s
 in_clip w0 w1 w2 a b c s is =
-    let bounds = span_of a b c in
+    let bounds = extent_of a b c in
     let total : pos 0 ≤ℤ pos (w0 + w1 + w2) = omega (arith, ints) in
     let low = product_at_most (pos (w0 + w1 + w2)) s.low (int_max s.low bounds.low) total (omega (arith, ints, clamps)) in
     let high = product_at_most (pos (w0 + w1 + w2)) (int_min s.high bounds.high) s.high total (omega (arith, ints, clamps)) in (
@@ -107,9 +107,9 @@ meets_clipped t cube met = record {
   w1 = met.w1;
   w2 = met.w2;
   some = met.some;
-  x = clip_in met.w0 met.w1 met.w2 t.a.x t.b.x t.c.x (cube_span cube 0) met.x;
-  y = clip_in met.w0 met.w1 met.w2 t.a.y t.b.y t.c.y (cube_span cube 1) met.y;
-  z = clip_in met.w0 met.w1 met.w2 t.a.z t.b.z t.c.z (cube_span cube 2) met.z;
+  x = clip_in met.w0 met.w1 met.w2 t.a.x t.b.x t.c.x (cube_extent cube 0) met.x;
+  y = clip_in met.w0 met.w1 met.w2 t.a.y t.b.y t.c.y (cube_extent cube 1) met.y;
+  z = clip_in met.w0 met.w1 met.w2 t.a.z t.b.z t.c.z (cube_extent cube 2) met.z;
 }
 
 clipped_meets : (t : Triangle) (cube : Cube) → Meets (moved t) (clip_cube t cube) → Meets t cube
@@ -119,18 +119,18 @@ clipped_meets t cube met = record {
   w1 = met.w1;
   w2 = met.w2;
   some = met.some;
-  x = in_clip met.w0 met.w1 met.w2 t.a.x t.b.x t.c.x (cube_span cube 0) met.x;
-  y = in_clip met.w0 met.w1 met.w2 t.a.y t.b.y t.c.y (cube_span cube 1) met.y;
-  z = in_clip met.w0 met.w1 met.w2 t.a.z t.b.z t.c.z (cube_span cube 2) met.z;
+  x = in_clip met.w0 met.w1 met.w2 t.a.x t.b.x t.c.x (cube_extent cube 0) met.x;
+  y = in_clip met.w0 met.w1 met.w2 t.a.y t.b.y t.c.y (cube_extent cube 1) met.y;
+  z = in_clip met.w0 met.w1 met.w2 t.a.z t.b.z t.c.z (cube_extent cube 2) met.z;
 }
 
 -- ---- a box that the triangle's box reaches, and what is left of it
 
-clip_reached : (a b c : ℤ) (s : Span) → spans_miss (span_of a b c) s ≡ false → int_le s.low s.high ≡ true → spans_miss (span_of (a -ℤ a) (b -ℤ a) (c -ℤ a)) (clip (span_of a b c) a s) ≡ false
+clip_reached : (a b c : ℤ) (s : ExtentShape) → shapes_miss (extent_of a b c) s ≡ false → int_le s.low s.high ≡ true → shapes_miss (extent_of (a -ℤ a) (b -ℤ a) (c -ℤ a)) (clip (extent_of a b c) a s) ≡ false
 clip_reached a b c s reached order =
-    let parts = or_parts (int_lt (span_of a b c).high s.low) (int_lt s.high (span_of a b c).low) reached in
-    let bounds = span_of (a -ℤ a) (b -ℤ a) (c -ℤ a) in
-    let left = clip (span_of a b c) a s in
+    let parts = or_parts (int_lt (extent_of a b c).high s.low) (int_lt s.high (extent_of a b c).low) reached in
+    let bounds = extent_of (a -ℤ a) (b -ℤ a) (c -ℤ a) in
+    let left = clip (extent_of a b c) a s in
     let low : left.low ≤ℤ bounds.high = omega (arith, ints, clamps, order, parts.0, parts.1) in
     let high : bounds.low ≤ℤ left.high = omega (arith, ints, clamps, order, parts.0, parts.1) in
     or_from (int_lt bounds.high left.low) (int_lt left.high bounds.low) (not_less bounds.high left.low low) (not_less left.high bounds.low high)
@@ -138,10 +138,10 @@ clip_reached a b c s reached order =
     not_less : (x y : ℤ) → y ≤ℤ x → int_lt x y ≡ false
     not_less x y h = grind (arith, ints)
 
-clip_order : (a b c : ℤ) (s : Span) → spans_miss (span_of a b c) s ≡ false → int_le s.low s.high ≡ true → int_le (clip (span_of a b c) a s).low (clip (span_of a b c) a s).high ≡ true
+clip_order : (a b c : ℤ) (s : ExtentShape) → shapes_miss (extent_of a b c) s ≡ false → int_le s.low s.high ≡ true → int_le (clip (extent_of a b c) a s).low (clip (extent_of a b c) a s).high ≡ true
 clip_order a b c s reached order =
-    let parts = or_parts (int_lt (span_of a b c).high s.low) (int_lt s.high (span_of a b c).low) reached in
-    let left = clip (span_of a b c) a s in
+    let parts = or_parts (int_lt (extent_of a b c).high s.low) (int_lt s.high (extent_of a b c).low) reached in
+    let left = clip (extent_of a b c) a s in
     let least : left.low ≤ℤ left.high = omega (arith, ints, clamps, order, parts.0, parts.1) in
     most left.low left.high least
   where

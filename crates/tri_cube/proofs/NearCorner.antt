@@ -12,7 +12,7 @@ use Rattle.octree_specs.proofs.Vectors.{vector_same}
 use Rattle.tri_cube.specs.declared.extents.Extents.{Extents}
 use Rattle.tri_cube.specs.Boxes.{extents_miss}
 use Rattle.tri_cube.specs.Edges.{corner, edge_of}
-use Rattle.tri_cube.specs.Extents.{Span, SpanWithin, span, span_of, spans_miss}
+use Rattle.tri_cube.specs.Extents.{ExtentShape, ExtentWithin, between, extent_of, shapes_miss}
 use Rattle.tri_cube.specs.Near.{IsNear, are_short, clip, is_short, is_small, moved, seen_from}
 use Rattle.tri_cube.specs.Planes.{plane_form}
 use Rattle.tri_cube.specs.Views.{box_of, plane_of}
@@ -20,7 +20,7 @@ use Rattle.tri_cube.specs.Views.{box_of, plane_of}
 abbrev the_point : ℤ → ℤ → ℤ → Point
 the_point x y z = record { x = x; y = y; z = z }
 
-pub spans : (x y p q : ℤ) → x ≡ p → y ≡ q → span x y ≡ span p q
+pub spans : (x y p q : ℤ) → x ≡ p → y ≡ q → between x y ≡ between p q
 spans x y p q e f = rw (e, f) refl
 
 pub points : (x y z p q r : ℤ) → x ≡ p → y ≡ q → z ≡ r → the_point x y z ≡ the_point p q r
@@ -28,15 +28,15 @@ points x y z p q r e f g = rw (e, f, g) refl
 
 -- ---- along an axis
 
-clip_within : (a b c : ℤ) (s : Span) → is_short (span_of a b c) ≡ true → spans_miss (span_of a b c) s ≡ false → SpanWithin (2 ^ 29) (clip (span_of a b c) a s)
+clip_within : (a b c : ℤ) (s : ExtentShape) → is_short (extent_of a b c) ≡ true → shapes_miss (extent_of a b c) s ≡ false → ExtentWithin (2 ^ 29) (clip (extent_of a b c) a s)
 clip_within a b c s short reached =
-    let parts = or_parts (int_lt (span_of a b c).high s.low) (int_lt s.high (span_of a b c).low) reached in
+    let parts = or_parts (int_lt (extent_of a b c).high s.low) (int_lt s.high (extent_of a b c).low) reached in
     record { low = omega (arith, ints, clamps, short, parts.0, parts.1); high = omega (arith, ints, clamps, short, parts.0, parts.1) }
 
-near_second : (a b c : ℤ) → is_short (span_of a b c) ≡ true → unsigned_abs (b -ℤ a) ≤ 2 ^ 29
+near_second : (a b c : ℤ) → is_short (extent_of a b c) ≡ true → unsigned_abs (b -ℤ a) ≤ 2 ^ 29
 near_second a b c short = omega (arith, ints, clamps, short)
 
-near_third : (a b c : ℤ) → is_short (span_of a b c) ≡ true → unsigned_abs (c -ℤ a) ≤ 2 ^ 29
+near_third : (a b c : ℤ) → is_short (extent_of a b c) ≡ true → unsigned_abs (c -ℤ a) ≤ 2 ^ 29
 near_third a b c short = omega (arith, ints, clamps, short)
 
 near_first : (a : ℤ) → unsigned_abs (a -ℤ a) ≤ 2 ^ 29
@@ -45,32 +45,32 @@ near_first a = omega (arith, ints)
 -- ---- along all axes
 
 record AreShort (t : Triangle) : Type 0 where
-  x : is_short (span_of t.a.x t.b.x t.c.x) ≡ true
-  y : is_short (span_of t.a.y t.b.y t.c.y) ≡ true
-  z : is_short (span_of t.a.z t.b.z t.c.z) ≡ true
+  x : is_short (extent_of t.a.x t.b.x t.c.x) ≡ true
+  y : is_short (extent_of t.a.y t.b.y t.c.y) ≡ true
+  z : is_short (extent_of t.a.z t.b.z t.c.z) ≡ true
 
 are_each : (t : Triangle) → is_small t ≡ true → AreShort t
 unfolding is_small are_short box_of
 are_each t small =
-    let whole = and_parts (is_short (span_of t.a.x t.b.x t.c.x) && is_short (span_of t.a.y t.b.y t.c.y)) (is_short (span_of t.a.z t.b.z t.c.z)) small in
-    let front = and_parts (is_short (span_of t.a.x t.b.x t.c.x)) (is_short (span_of t.a.y t.b.y t.c.y)) whole.0 in
+    let whole = and_parts (is_short (extent_of t.a.x t.b.x t.c.x) && is_short (extent_of t.a.y t.b.y t.c.y)) (is_short (extent_of t.a.z t.b.z t.c.z)) small in
+    let front = and_parts (is_short (extent_of t.a.x t.b.x t.c.x)) (is_short (extent_of t.a.y t.b.y t.c.y)) whole.0 in
     record { x = front.0; y = front.1; z = whole.1 }
 
 pub record Reached (t : Triangle) (bounds e : Extents) : Type 0 where
-  pub within_x : SpanWithin (2 ^ 29) (clip bounds.x t.a.x e.x)
-  pub within_y : SpanWithin (2 ^ 29) (clip bounds.y t.a.y e.y)
-  pub within_z : SpanWithin (2 ^ 29) (clip bounds.z t.a.z e.z)
+  pub within_x : ExtentWithin (2 ^ 29) (clip bounds.x t.a.x e.x)
+  pub within_y : ExtentWithin (2 ^ 29) (clip bounds.y t.a.y e.y)
+  pub within_z : ExtentWithin (2 ^ 29) (clip bounds.z t.a.z e.z)
 
 pub record Unmissed (bounds e : Extents) : Type 0 where
-  pub x : spans_miss bounds.x e.x ≡ false
-  pub y : spans_miss bounds.y e.y ≡ false
-  pub z : spans_miss bounds.z e.z ≡ false
+  pub x : shapes_miss bounds.x e.x ≡ false
+  pub y : shapes_miss bounds.y e.y ≡ false
+  pub z : shapes_miss bounds.z e.z ≡ false
 
 pub unmissed : (bounds e : Extents) → extents_miss bounds e ≡ false → Unmissed bounds e
 unfolding extents_miss
 unmissed bounds e reached =
-    let whole = or_parts (spans_miss bounds.x e.x || spans_miss bounds.y e.y) (spans_miss bounds.z e.z) reached in
-    let front = or_parts (spans_miss bounds.x e.x) (spans_miss bounds.y e.y) whole.0 in
+    let whole = or_parts (shapes_miss bounds.x e.x || shapes_miss bounds.y e.y) (shapes_miss bounds.z e.z) reached in
+    let front = or_parts (shapes_miss bounds.x e.x) (shapes_miss bounds.y e.y) whole.0 in
     record { x = front.0; y = front.1; z = whole.1 }
 
 box_reached : (t : Triangle) (e : Extents) → is_small t ≡ true → extents_miss (box_of t) e ≡ false → Reached t (box_of t) e

@@ -7,7 +7,7 @@ use Rattle.tri_cube.specs.declared.extents.Extents.{Extents}
 use Rattle.tri_cube.specs.declared.outlines.Outline.{Outline}
 use Rattle.tri_cube.specs.declared.outlines.Seen.{Seen}
 use Rattle.tri_cube.specs.Boxes.{extents_miss}
-use Rattle.tri_cube.specs.Extents.{Span, span}
+use Rattle.tri_cube.specs.Extents.{ExtentShape, between}
 use Rattle.tri_cube.specs.Lines.{Line}
 use Rattle.tri_cube.specs.Outlines.{misses_outline}
 use Rattle.tri_cube.specs.Planes.{PlaneForm, misses_plane}
@@ -21,9 +21,9 @@ seen_from a p = record { x = p.x -ℤ a.x; y = p.y -ℤ a.y; z = p.z -ℤ a.z }
 unfoldable pub moved : Triangle → Triangle
 moved t = record { a = seen_from t.a t.a; b = seen_from t.a t.b; c = seen_from t.a t.c }
 
--- what of a span is within bounds, seen from a coordinate
-abbrev pub clip : Span → ℤ → Span → Span
-clip bounds from s = span (int_max s.low bounds.low -ℤ from) (int_min s.high bounds.high -ℤ from)
+-- what of a between is within bounds, seen from a coordinate
+abbrev pub clip : ExtentShape → ℤ → ExtentShape → ExtentShape
+clip bounds from s = between (int_max s.low bounds.low -ℤ from) (int_min s.high bounds.high -ℤ from)
 
 -- what of a box is within bounds, seen from a point
 abbrev pub clip_box : Extents → Point → Extents → Extents
@@ -33,8 +33,8 @@ clip_box bounds from e = record { x = clip bounds.x from.x e.x; y = clip bounds.
 unfoldable pub clipped : Triangle → Extents → Extents
 clipped t e = clip_box (box_of t) t.a e
 
--- a span is at most 2^29 long
-abbrev pub is_short : Span → Bool
+-- a between is at most 2^29 long
+abbrev pub is_short : ExtentShape → Bool
 is_short s = int_le (s.high -ℤ s.low) (pos (2 ^ 29))
 
 unfoldable pub are_short : Extents → Bool

@@ -3,11 +3,11 @@
 
 ghost use Rattle.std.specs.Prelude.{◌≡◌, ◌^◌, ◌≤◌, ◌-ℤ◌, false, true, unsigned_abs};
 ghost use Rattle.tri_cube.specs.Boxes.{extents_miss};
-ghost use Rattle.tri_cube.specs.Extents.{SpanWithin};
+ghost use Rattle.tri_cube.specs.Extents.{ExtentWithin};
 ghost use Rattle.tri_cube.specs.Near.{IsNear, PointWithin, are_short, clip, clip_box, is_short, is_small, moved, seen_from};
 ghost use Rattle.tri_cube.specs.Views.{box_of};
 
-use crate::extents::{Extent, Extents};
+use crate::extents::{Extents, WideExtent};
 use std::marker::Model;
 use svo_base::{Point, Triangle};
 
@@ -23,21 +23,21 @@ pub struct NearExtent {
 
 impl Model for NearExtent {
     ghost use Rattle.std.specs.Prelude.{◌^◌};
-    ghost use Rattle.tri_cube.specs.Extents.{Span, SpanWithin, span};
+    ghost use Rattle.tri_cube.specs.Extents.{ExtentShape, ExtentWithin, between};
 
-    ghost Value = { Span };
+    ghost Value = { ExtentShape };
 
-    ghost view = { λ e. span e.lo e.hi };
+    ghost view = { λ e. between e.lo e.hi };
 
-    ghost invariant = { λ e. SpanWithin (2 ^ 29) (span e.lo e.hi) };
+    ghost invariant = { λ e. ExtentWithin (2 ^ 29) (between e.lo e.hi) };
 
     ghost inverse = { λ s. record { lo = s.low; hi = s.high } };
 }
 
 impl NearExtent {
     /// What of an extent is within bounds, seen from a coordinate that is near both ends of it.
-    fn new(bounds: &Extent, from: &i32, extent: &Extent) -> NearExtent
-        requires { SpanWithin (2 ^ 29) (clip bounds.now from.now extent.now) }
+    fn new(bounds: &WideExtent, from: &i32, extent: &WideExtent) -> NearExtent
+        requires { ExtentWithin (2 ^ 29) (clip bounds.now from.now extent.now) }
         ensures { result ≡ clip bounds.now from.now extent.now }
     {
         let lo = extent.lo().max(bounds.lo());
@@ -136,7 +136,7 @@ pub fn are_short(bounds: &Extents) -> bool
     is_short(&bounds.x) && is_short(&bounds.y) && is_short(&bounds.z)
 }
 
-fn is_short(extent: &Extent) -> bool
+fn is_short(extent: &WideExtent) -> bool
     ensures { result ≡ is_short extent.now }
 {
     extent.hi() - extent.lo() <= SMALL
