@@ -25,6 +25,3 @@ pub use memory_sink::MemSink;
 pub use memory_source::MemSource;
 pub use memory_store::MemStore;
 pub use stream_device::Scratch;
-
-#[cfg(test)]
-mod tests;

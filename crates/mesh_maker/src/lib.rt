@@ -10,6 +10,3 @@ mod made_mesh;
 
 pub use laws::{made_meshes_are_counted, made_texts_mean_their_mesh};
 pub use made_mesh::MadeMesh;
-
-#[cfg(test)]
-mod tests;

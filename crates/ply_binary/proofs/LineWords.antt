@@ -4,7 +4,8 @@ use Rattle.std.proofs.lemmas.List.{drop-drop, take_all, take-append-drop}
 use Rattle.std.proofs.lemmas.Slice.Eq.{bytes_eq-Decides}
 use Rattle.std.specs.Str.{bytes_eq}
 use Rattle.std.proofs.lemmas.Grind.{common_steps}
-use Rattle.ply_reader.specs.LineWords.{is_blank, word_size, cut_word, next_word, with_word, words_of, line_words}
+use Rattle.ply_reader.specs.LineWords.{line_words}
+use Rattle.text_words.specs.LineWords.{is_blank, word_size, cut_word, next_word, with_word, words_of}
 use Rattle.std.specs.List.{prefix_len}
 
 -- a front of a text is copied, and the rest of it is left

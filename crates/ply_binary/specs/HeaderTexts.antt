@@ -7,7 +7,8 @@ use Rattle.ply_text.specs.NextPieces.{next_line_of, line_size}
 use Rattle.ply_reader.specs.declared.fault.PlyKind.{PlyKind}
 use Rattle.ply_reader.specs.Declarations.{Declared, nothing_declared}
 use Rattle.ply_reader.specs.HeaderRules.{rules_of, first_broken, is_end, after}
-use Rattle.ply_reader.specs.LineWords.{next_word, line_words}
+use Rattle.ply_reader.specs.LineWords.{line_words}
+use Rattle.text_words.specs.LineWords.{next_word}
 use Rattle.ply_binary.specs.Bodies.{body_text}
 
 -- what stands behind the first word of a line

@@ -12,6 +12,3 @@ mod waiting;
 mod words;
 
 pub use source::AsciiSource;
-
-#[cfg(test)]
-mod tests;

@@ -2,7 +2,8 @@
 
 ghost use Rattle.std.specs.Prelude.{◌≡◌, ◌+◌, ◌-◌, ◌^◌, ◌≤◌, ◌<◌, ◌++◌, ◌∷◌, ℕ, List, Bool, true, false, length, take, drop, MatchOption, IfSome, min, Option, Some, None};
 ghost use Rattle.ply_text.specs.NextPieces.{without_return, line_of};
-ghost use Rattle.ply_reader.specs.LineWords.{next_word, words_of, line_words};
+ghost use Rattle.text_words.specs.LineWords.{next_word, words_of};
+ghost use Rattle.ply_reader.specs.LineWords.{line_words};
 ghost use Rattle.ply_binary.specs.HeaderTexts.{is_binary, behind_word, shown_line};
 ghost use Rattle.ply_binary.specs.LineStates.{IsFormat, IsLong, shown_of};
 

@@ -2,7 +2,7 @@
 
 ghost use Rattle.std.specs.Prelude.{◌≡◌, ◌≤◌, length, MatchOption, None, Some};
 ghost use Rattle.std.specs.List.{prefix_len};
-ghost use Rattle.ply_reader.specs.LineWords.{is_blank, word_size, next_word};
+ghost use Rattle.text_words.specs.LineWords.{is_blank, word_size, next_word};
 
 /// The word that stands first in a text, and what stands behind it.
 pub(crate) fn next_word(text: &[u8]) -> Option<(&[u8], &[u8])>

@@ -29,6 +29,3 @@ pub use mesh::MeshReader;
 pub use properties::{Part, Property, Scalar};
 pub use scales::Scale;
 pub use whole_mesh::{MeshFault, WholeMesh, read_mesh};
-
-#[cfg(test)]
-mod tests;

@@ -14,10 +14,3 @@ pub use fault::TextFault;
 pub use numbers::{NumberFault, one_numeral, one_reading, read_fixed};
 pub use tokens::{Line, Token, Tokens};
 pub use wholes::read_whole;
-
-#[cfg(test)]
-mod number_tests;
-#[cfg(test)]
-mod token_callers;
-#[cfg(test)]
-mod token_tests;

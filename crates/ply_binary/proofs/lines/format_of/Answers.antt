@@ -1,6 +1,6 @@
 use Rattle.std.proofs.Common.{◌≡◌, ◌∙◌, refl, ap, arith, codes, Some}
 use Rattle.std.specs.Str.{bytes_eq}
-use Rattle.ply_reader.specs.LineWords.{next_word}
+use Rattle.text_words.specs.LineWords.{next_word}
 use Rattle.ply_binary.specs.HeaderTexts.{is_format, is_binary, ascii_line, ascii_with, behind_word}
 use Rattle.ply_binary.proofs.LineWords.{first_word, word_sizes, tested_equal}
 use Rattle.ply_binary.proofs.lines.format_of.Goals as goal

@@ -6,8 +6,8 @@ ghost use Rattle.ply_text.specs.Pieces.{Piece};
 ghost use Rattle.ply_text.specs.BodyTokens.{body_tokens};
 ghost use Rattle.ply_text.specs.Calls.{fault_place};
 
-use crate::{TextFault, Tokens};
 use dev_traits::{ByteSource, MemSource};
+use ply_text::{TextFault, Tokens};
 
 /// The size of a text's first token and the place of its second one.
 fn first_two<I: ByteSource>(

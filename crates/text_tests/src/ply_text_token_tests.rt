@@ -1,7 +1,7 @@
 //! Expected lines, tokens and places were counted by hand.
 
-use crate::{TextFault, Tokens};
 use dev_traits::MemSource;
+use ply_text::{TextFault, Tokens};
 use std::alloc::{AllocError, Global};
 
 /// CR LF, a CR inside a line, a blank line, and a last line without an end that is a CR.

@@ -2,8 +2,8 @@
 
 ghost use Rattle.std.specs.Prelude.{◌≤◌, length};
 
-use crate::NumberFault::{BadNumber, NotWhole, OutOfRange};
-use crate::{NumberFault, one_numeral, one_reading, read_fixed, read_whole};
+use ply_text::NumberFault::{BadNumber, NotWhole, OutOfRange};
+use ply_text::{NumberFault, one_numeral, one_reading, read_fixed, read_whole};
 use std::test::Fail;
 
 /// A number by what it is without cutting, and with it.

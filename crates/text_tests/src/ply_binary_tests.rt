@@ -2,8 +2,8 @@
 
 ghost use Rattle.std.specs.Prelude.{◌≤◌, ◌<◌};
 
-use crate::AsciiSource;
 use dev_traits::{ByteSource, MemSource};
+use ply_binary::AsciiSource;
 
 /// How many bytes a read of the input gives at most, and how many are asked for at a time.
 const SIZES: &[usize] = &[1, 7, 4096];

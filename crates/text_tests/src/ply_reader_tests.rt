@@ -2,8 +2,8 @@
 
 ghost use Rattle.std.specs.Prelude.{◌≤◌};
 
-use crate::{FaceTriangle, MeshFault, PlyFault, PlyKind, WholeMesh, read_mesh};
 use dev_traits::MemSource;
+use ply_reader::{FaceTriangle, MeshFault, PlyFault, PlyKind, WholeMesh, read_mesh};
 use std::alloc::Global;
 use std::test::Fail;
 use svo_base::Point;

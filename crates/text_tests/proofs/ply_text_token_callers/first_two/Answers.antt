@@ -5,7 +5,7 @@ use Rattle.ply_text.specs.Calls.{token_piece}
 use Rattle.ply_text.proofs.Callers.{stands_after, starts, reached_by, read_at_fault, None-from_default, TokenCall-given, no_token, last_token, two_tokens}
 use Rattle.ply_text.specs.NextPieces.{next_token_of, token_size}
 use Rattle.ply_text.proofs.RunSizes.{err_is}
-use Rattle.ply_text.proofs.token_callers.first_two.Goals as goal
+use Rattle.text_tests.proofs.ply_text_token_callers.first_two.Goals as goal
 
 pub returns-in_default-clause-told : goal.returns-in_default-clause-told
 returns-in_default-clause-told g c = λ text told.

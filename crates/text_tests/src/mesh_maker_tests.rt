@@ -1,5 +1,5 @@
-use crate::MadeMesh;
 use dev_traits::ByteSource;
+use mesh_maker::MadeMesh;
 
 /// The text of number 0 and side 1: the generator's numbers after 0 begin with 1442695040888963407, and
 /// their six highest bits are 5, 6, 38 and 25.

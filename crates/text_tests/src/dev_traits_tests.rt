@@ -1,4 +1,4 @@
-use crate::{
+use dev_traits::{
     ByteSink, ByteSource, Failed, MemScratch, MemSink, MemSource, MemStore, NodeStore, PartFail,
     Scratch,
 };
@@ -99,7 +99,7 @@ fn a_scratch_takes_what_fits_and_reads_it_back(rt: HostRuntime) {
 }
 
 #[test]
-#[tactic(auto, unfolding(crate::specs::Files::file_named))]
+#[tactic(auto, unfolding(dev_traits::specs::Files::file_named))]
 fn a_store_gives_its_files_by_name(rt: HostRuntime) {
     let mut store = MemStore::new(rt.alloc(), &[2, 6]).expect(&rt, "memory");
     store.add("a", b"first").expect(&rt, "memory");
