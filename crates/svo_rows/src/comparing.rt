@@ -44,9 +44,7 @@ fn in_status(
         return Ok(None);
     }
     let text = wanted.text.as_str();
-    Ok(Some(
-        format!(in alloc; "wanted err {text:?}, came {line}")?,
-    ))
+    Ok(Some(format!(in alloc; "wanted err {text:?}, came {line}")?))
 }
 
 /// How far bytes must be those of a text.
@@ -150,9 +148,7 @@ fn differs(
     }
     let wanted = printable(alloc, wanted)?;
     let came = printable(alloc, came)?;
-    Ok(Some(
-        format!(in alloc; "wanted out {wanted}, came {came}")?,
-    ))
+    Ok(Some(format!(in alloc; "wanted out {wanted}, came {came}")?))
 }
 
 /// The most bytes that a complaint shows.
@@ -194,9 +190,7 @@ fn in_devices(alloc: Global, want: &Want, came: &Outcome) -> Result<Option<Strin
     for stream in want.streams.as_slice() {
         if !has_stream(alloc, stream, came)? {
             let number = stream.stream;
-            return Ok(Some(
-                format!(in alloc; "stream {number} has other records")?,
-            ));
+            return Ok(Some(format!(in alloc; "stream {number} has other records")?));
         }
     }
     Ok(None)
@@ -216,9 +210,7 @@ fn in_calls(alloc: Global, calls: &Calls, came: &Outcome) -> Result<Option<Strin
             && count != came.calls(device)
         {
             let found = came.calls(device);
-            return Ok(Some(
-                format!(in alloc; "wanted {count} calls of {device:?}, came {found}")?,
-            ));
+            return Ok(Some(format!(in alloc; "wanted {count} calls of {device:?}, came {found}")?));
         }
     }
     Ok(None)

@@ -156,12 +156,23 @@ pub struct Row {
     pub then: Option<Want>,
 }
 
-/// The words of a command: a line with a space between each two of them, or a list.
+/// The words of a command: a line with a space between each two of them, a list, or a list with one word
+/// more, so many times.
 #[derive(Drop, Deserialize)]
 #[serde(untagged)]
 pub enum CommandLine {
     Line(String),
     Words(Vec<String>),
+    Many(ManyWords),
+}
+
+/// Words, and a word that stands so many times behind them.
+#[derive(Drop, Deserialize)]
+#[serde(deny_unknown_fields)]
+pub struct ManyWords {
+    pub words: Vec<String>,
+    pub more: String,
+    pub times: u64,
 }
 
 /// A call of a device, counted from 1, that is refused, and how many bytes it takes first.

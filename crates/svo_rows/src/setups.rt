@@ -94,20 +94,35 @@ impl Setup {
 
 /// The words of a command line.
 pub fn words_of(alloc: Global, line: &CommandLine) -> Result<Vec<String>, AllocError> {
-    let mut words = Vec::new(alloc);
     match line {
-        CommandLine::Line(line) => {
-            for word in line.as_str().split(' ') {
-                if !word.is_empty() {
-                    words.push(String::from_str(alloc, word)?)?;
-                }
+        CommandLine::Line(line) => split_words(alloc, line.as_str()),
+        CommandLine::Words(words) => copied(alloc, words.as_slice()),
+        CommandLine::Many(many) => {
+            let mut words = copied(alloc, many.words.as_slice())?;
+            for _ in 0..many.times {
+                words.push(String::from_str(alloc, many.more.as_str())?)?;
             }
+            Ok(words)
         }
-        CommandLine::Words(list) => {
-            for word in list.as_slice() {
-                words.push(String::from_str(alloc, word.as_str())?)?;
-            }
+    }
+}
+
+/// The words between the spaces of a line.
+fn split_words(alloc: Global, line: &str) -> Result<Vec<String>, AllocError> {
+    let mut words = Vec::new(alloc);
+    for word in line.split(' ') {
+        if !word.is_empty() {
+            words.push(String::from_str(alloc, word)?)?;
         }
+    }
+    Ok(words)
+}
+
+/// A copy of a list of words.
+fn copied(alloc: Global, list: &[String]) -> Result<Vec<String>, AllocError> {
+    let mut words = Vec::new(alloc);
+    for word in list {
+        words.push(String::from_str(alloc, word.as_str())?)?;
     }
     Ok(words)
 }

@@ -70,11 +70,7 @@ fn given(alloc: Global, known: &Known<'_>, name: &str) -> Result<Vec<u8>, RowFau
 }
 
 /// Bytes that are spelled out.
-fn spelled_out(
-    alloc: Global,
-    known: &Known<'_>,
-    spelling: &Spelling,
-) -> Result<Vec<u8>, RowFault> {
+fn spelled_out(alloc: Global, known: &Known<'_>, spelling: &Spelling) -> Result<Vec<u8>, RowFault> {
     match spelling {
         Spelling::Text(text) => Ok(Vec::from_slice(alloc, text.as_bytes())?),
         Spelling::Lines(lines) => Ok(lines_of(alloc, lines.as_slice(), "\n")?),
@@ -158,11 +154,7 @@ pub fn int_bytes(alloc: Global, numbers: &[i32]) -> Result<Vec<u8>, AllocError> 
 }
 
 /// The bytes of a name, with changes.
-fn with_changes(
-    alloc: Global,
-    known: &Known<'_>,
-    changed: &Changed,
-) -> Result<Vec<u8>, RowFault> {
+fn with_changes(alloc: Global, known: &Known<'_>, changed: &Changed) -> Result<Vec<u8>, RowFault> {
     let mut bytes = named(alloc, known, changed.of.as_str())?;
     for change in changed.changes.as_slice() {
         bytes = with_change(alloc, bytes, change)?;
@@ -199,12 +191,7 @@ fn put(alloc: Global, bytes: &mut Vec<u8>, placed: &Placed) -> Result<(), RowFau
 }
 
 /// Puts a piece at a place, within the bytes.
-fn put_at(
-    alloc: Global,
-    bytes: &mut Vec<u8>,
-    at: usize,
-    piece: &[u8],
-) -> Result<(), RowFault> {
+fn put_at(alloc: Global, bytes: &mut Vec<u8>, at: usize, piece: &[u8]) -> Result<(), RowFault> {
     let mut place = at;
     for byte in piece {
         match bytes.get_mut(place) {
