@@ -15,7 +15,10 @@ fn last_word<N: NodeStore, L: Ledger>(
     name: &str,
     reads: &mut Steps<L>,
 ) -> Result<(u32, u64, u8), LoadFault> {
-    let mut nodes = Nodes::load(store, name)?;
+    let mut nodes = match Nodes::load(store, name) {
+        Err(unloaded) => return Err(unloaded.fault),
+        Ok(nodes) => nodes,
+    };
     let last = nodes.totals().records - 1;
     let word = nodes.word(last, reads)?;
     let mut bytes = [0; 8];

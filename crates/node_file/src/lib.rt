@@ -16,5 +16,5 @@ pub use layout::{header_bytes, trailer_bytes};
 pub use lent_words::LentWords;
 pub use loading::{Frame, LoadFault};
 pub use records::{Records, Totals};
-pub use stored::Nodes;
+pub use stored::{Nodes, Unloaded};
 pub use writer::NodeWriter;

@@ -44,26 +44,39 @@ pub struct Nodes<'a, N: NodeStore> {
     ghost kept: { ForSome (current_bytes (N.files store.now) (N.current store.now)) (λ bytes. take (8 * held) block ≡ take (8 * held) (drop (48 + 8 * first) bytes)) },
 }
 
+/// A store whose file could not be loaded, and why. The store is given back, so that its caller knows
+/// what it is: a load fails only where the store counted a fault.
+#[derive(Drop)]
+pub struct Unloaded<'a, N: NodeStore> {
+    pub store: &'a mut N,
+    pub fault: LoadFault,
+}
+
 impl<'a, N: NodeStore> Nodes<'a, N> {
     ghost use Rattle.dev_traits.specs.Files.{file_named};
-    ghost use Rattle.node_file.specs.Loading.{IsLoaded};
-    ghost use Rattle.node_file.specs.Viewing.{file_of};
+    ghost use Rattle.node_file.specs.Loading.{IsLoaded, FailsOnlyByFault};
+    ghost use Rattle.node_file.specs.Viewing.{file_of, fault_of};
+    ghost use Rattle.std.specs.Result.{IfErr};
 
-    /// The node file of this name. A caller that has to know what its store is after a refusal calls
-    /// [`Frame::read`] and [`Nodes::new`] one after the other, as this does.
+    /// The node file of this name.
     ///
     /// # Errors
     ///
     /// As [`Frame::read`].
-    pub fn load(store: &'a mut N, name: &str) -> Result<Nodes<'a, N>, LoadFault>
-        ensures loaded { IfSome (N.files store.old) (λ files. IsLoaded file_of (file_named files name.now) result) }
+    pub fn load(store: &'a mut N, name: &str) -> Result<Nodes<'a, N>, Unloaded<'a, N>>
+        ensures loaded { IfSome (N.files store.old) (λ files. IsLoaded file_of (file_named files name.now) (fault_of result)) }
+        ensures lent { IfErr result (λ unloaded. unloaded.store.ghost_name ≡ store.entry.ghost_name) }
+        ensures kept { IfErr result (λ unloaded. N.files unloaded.store.now ≡ N.files store.old) }
+        ensures cause { IfErr result (λ unloaded. FailsOnlyByFault (N.faults store.old) (N.faults unloaded.store.now) (fault_of result)) }
         ensures store { IfOk result (λ nodes. nodes.store.ghost_name ≡ store.entry.ghost_name) }
         ensures files { IfOk result (λ nodes. N.files nodes.store.now ≡ N.files store.old) }
         ensures later { IfOk result (λ nodes. N.faults store.old ≤ N.faults nodes.store.now) }
         ensures looked { IfOk result (λ nodes. nodes.looked ≡ 0) }
     {
-        let frame = Frame::read(store, name)?;
-        Ok(Nodes::new(store, frame))
+        match Frame::read(store, name) {
+            Err(fault) => Err(Unloaded { store, fault }),
+            Ok(frame) => Ok(Nodes::new(store, frame)),
+        }
     }
 
     /// The words of the store's current file, which has this frame.

@@ -152,7 +152,10 @@ fn two_words<N: NodeStore, L: Ledger>(
     cache: &mut BlockCache,
     reads: &mut Steps<L>,
 ) -> Result<(u64, u64), LoadFault> {
-    let nodes = Nodes::load(store, "octree")?;
+    let nodes = match Nodes::load(store, "octree") {
+        Err(unloaded) => return Err(unloaded.fault),
+        Ok(nodes) => nodes,
+    };
     if nodes.totals().records != 9 {
         return Err(LoadFault::NotNodes);
     }

@@ -5,14 +5,14 @@ use Rattle.node_file.specs.Viewing.{file_of}
 use Rattle.node_file.proofs.Loads.{is_loaded}
 use Rattle.node_file.proofs.stored.Nodes.load.Goals as goal
 
-pub returns-clause-loaded : goal.returns-clause-loaded
-returns-clause-loaded g c =
-    is_loaded file_of c.args.name.now c.new.result c.in_ok-frame.frame (g.N.NodeStore.files c.args.store.now) (g.N.NodeStore.files c.read.new.store) (g.N.NodeStore.current c.read.new.store)
-    c.in_ok-frame.ensures.found c.in_ok-frame.ensures.files c.in_ok-frame.ensures.current
+pub returns-in-Ok-clause-loaded : goal.returns-in-Ok-clause-loaded
+returns-in-Ok-clause-loaded g c =
+    is_loaded file_of c.args.name.now c.new.result c.in-Ok.frame (g.N.NodeStore.files c.args.store.now) (g.N.NodeStore.files c.read.new.store) (g.N.NodeStore.current c.read.new.store)
+    c.in-Ok.ensures.found c.in-Ok.ensures.files c.in-Ok.ensures.current
     (λ i. record {
       format = (c.new.ensures.frame i).format;
       grid = (c.new.ensures.frame i).grid;
       totals = (c.new.ensures.frame i).totals;
       words = words_in (current_bytes (g.N.NodeStore.files (c.new.ensures.now i)) (g.N.NodeStore.current (c.new.ensures.now i))) (c.new.ensures.frame i).totals.records;
     })
-    c.in_ok-frame.ensures.some
+    c.in-Ok.ensures.some
