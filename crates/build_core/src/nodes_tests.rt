@@ -63,9 +63,7 @@ fn put_counted<S: Scratch, O: ByteSink, L: Ledger, T: Ledger>(
     let mut room = room_for(alloc)?;
     let mut moves = Steps::<L>::new(blank);
     let mut tests = Steps::<T>::new(other);
-    Some(write_nodes(
-        grid, split, &mut room, scratch, out, &mut moves, &mut tests,
-    ))
+    Some(write_nodes(grid, split, &mut room, scratch, out, &mut moves, &mut tests))
 }
 
 /// The same with a count of its own for each.
@@ -192,7 +190,11 @@ fn a_fault_leaves_a_front_of_the_file(rt: HostRuntime) {
         let mut scratch = MemScratch::new(rt.alloc(), 9, 4000, &fails).expect(&rt, "memory");
         let mut sink = MemSink::new(rt.alloc(), 1 << 12, &[]).expect(&rt, "memory");
         let put = there_and_put(rt.alloc(), &grid, 1, &mut scratch, &mut sink);
-        assert_eq!(rt; put, Some(Err(NodesFault::Scratch)), "the answer at call {call}");
+        assert_eq!(rt;
+            put,
+            Some(Err(NodesFault::Scratch)),
+            "the answer at call {call}"
+        );
         assert!(rt;
             file.as_slice().starts_with(sink.bytes()),
             "a front at call {call}"
