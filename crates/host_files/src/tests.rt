@@ -2,6 +2,7 @@ use crate::{FileStore, FolderScratch, HostErrors, HostInput, HostOutput};
 use dev_traits::{ByteSink, ByteSource, Failed, NodeStore, Scratch};
 use std::fs;
 use std::fs::File;
+use std::io::BufWriter;
 
 #[test]
 fn an_input_gives_a_file_to_its_end(rt: HostRuntime) {
@@ -43,6 +44,25 @@ fn outputs_write_whole_pieces_and_count_refusals(rt: HostRuntime) {
         assert_eq!(rt; shut_out.fault_count(), count, "faults");
         assert_eq!(rt; shut_err.fault_count(), count, "faults");
     }
+}
+
+#[test]
+fn outputs_hand_on_what_a_writer_holds_back(rt: HostRuntime) {
+    let held = BufWriter::new(rt.alloc(), File::create(&rt, "held").expect(&rt, "a file")).expect(
+        &rt, "memory",
+    );
+    let mut out = HostOutput::new(held);
+    for (piece, whole) in [(b"ab".as_slice(), b"ab".as_slice()), (b"c", b"abc")] {
+        assert_eq!(rt; out.put(piece), Ok(()), "a put");
+        let text = fs::read(&rt, "held").expect(&rt, "a file");
+        assert!(rt; text.as_slice() == whole, "what was put is there at once");
+    }
+    let shut = BufWriter::new(rt.alloc(), File::open(&rt, "held").expect(&rt, "a file")).expect(
+        &rt, "memory",
+    );
+    let mut shut_err = HostErrors::new(shut);
+    assert_eq!(rt; shut_err.put(b"d"), Err(Failed), "a flush that fails");
+    assert_eq!(rt; shut_err.fault_count(), 1, "faults");
 }
 
 #[test]
