@@ -76,7 +76,7 @@ impl WantedLine {
 
 /// The line that must come, with its end; nothing where the row names none.
 fn wanted_line(alloc: Global, want: &Want, number: usize) -> Result<WantedLine, RowFault> {
-    match (&want.err, &want.err_front, &want.err_begins) {
+    match (&want.err.line, &want.err.front, &want.err.begins) {
         (None, None, None) => Ok(WantedLine {
             text: String::new(alloc),
             extent: Extent::Whole,
@@ -113,7 +113,7 @@ fn in_out(
     came: &Outcome,
 ) -> Result<Option<String>, RowFault> {
     let out = came.out.bytes();
-    match (&want.out, &want.out_front, &want.out_sha256) {
+    match (&want.out.whole, &want.out.front, &want.out.sha256) {
         (None, None, None) => differs(alloc, out.is_empty(), b"", out),
         (Some(bytes), None, None) => {
             let wanted = spelled(alloc, known, bytes)?;

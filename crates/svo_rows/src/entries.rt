@@ -1,6 +1,10 @@
 //! The lines of a table, as they are written down.
 
+use crate::faults::RowFault;
+use crate::members::Members;
 use serde::Deserialize;
+use serde_json::Value;
+use std::alloc::Global;
 
 /// A line of the table.
 #[derive(Drop, Deserialize)]
@@ -8,8 +12,8 @@ use serde::Deserialize;
 pub enum Entry {
     /// Bytes with a name, for the lines behind this one.
     Bytes(NamedBytes),
-    /// A worked row.
-    Row(Row),
+    /// A worked row, by its keys.
+    Row(Value),
 }
 
 /// Bytes with a name.
@@ -131,29 +135,77 @@ pub struct NodeWords {
 }
 
 /// A run of the program, or many, and what must come.
-#[derive(Drop, Deserialize)]
-#[serde(deny_unknown_fields)]
+#[derive(Drop)]
 pub struct Row {
     pub name: String,
     pub run: CommandLine,
-    pub input: Option<Bytes>,
-    #[serde(default = "usual_piece")]
-    pub piece: usize,
-    #[serde(default = "usual_room")]
-    pub room: usize,
-    #[serde(default = "usual_streams")]
-    pub streams: u32,
-    #[serde(default = "usual_stream_room")]
-    pub stream_room: usize,
-    #[serde(default)]
-    pub refuses: Vec<Refusal>,
-    #[serde(default)]
-    pub files: Vec<NamedBytes>,
+    pub given: Given,
     pub sweep: Option<Sweep>,
     pub runs: Option<u64>,
     pub want: Want,
     pub or: Option<Want>,
     pub then: Option<Want>,
+}
+
+impl Row {
+    /// Reads a row of its keys.
+    pub fn read(alloc: Global, value: Value) -> Result<Row, RowFault> {
+        let mut members = Members::of(alloc, value)?;
+        let name = members.required(alloc, "name")?;
+        let run = members.required(alloc, "run")?;
+        let given = Given::read(alloc, &mut members)?;
+        let sweep = members.optional(alloc, "sweep")?;
+        let runs = members.optional(alloc, "runs")?;
+        let want = members.required(alloc, "want")?;
+        let or = Want::read_if(alloc, members.optional(alloc, "or")?)?;
+        let then = Want::read_if(alloc, members.optional(alloc, "then")?)?;
+        members.end(alloc)?;
+        let want = Want::read(alloc, want)?;
+        Ok(Row {
+            name,
+            run,
+            given,
+            sweep,
+            runs,
+            want,
+            or,
+            then,
+        })
+    }
+}
+
+/// What the devices of a run hold, how much room they have, and which of their calls are refused.
+#[derive(Drop)]
+pub struct Given {
+    pub input: Option<Bytes>,
+    pub files: Vec<NamedBytes>,
+    pub piece: usize,
+    pub room: usize,
+    pub streams: u32,
+    pub stream_room: usize,
+    pub refuses: Vec<Refusal>,
+}
+
+impl Given {
+    /// Reads it of the keys of a row.
+    fn read(alloc: Global, members: &mut Members) -> Result<Given, RowFault> {
+        let input = members.optional(alloc, "input")?;
+        let files = members.or(alloc, "files", Vec::new(alloc))?;
+        let piece = members.or(alloc, "piece", 4096)?;
+        let room = members.or(alloc, "room", 65_536)?;
+        let streams = members.or(alloc, "streams", 9)?;
+        let stream_room = members.or(alloc, "stream_room", 4096)?;
+        let refuses = members.or(alloc, "refuses", Vec::new(alloc))?;
+        Ok(Given {
+            input,
+            files,
+            piece,
+            room,
+            streams,
+            stream_room,
+            refuses,
+        })
+    }
 }
 
 /// The words of a command: a line with a space between each two of them, a list, or a list with one word
@@ -230,21 +282,89 @@ pub struct CutSweep {
 }
 
 /// What must come of a run.
-#[derive(Drop, Deserialize)]
-#[serde(deny_unknown_fields)]
+#[derive(Drop)]
 pub struct Want {
     pub status: u8,
-    pub err: Option<String>,
-    pub err_front: Option<String>,
-    pub err_begins: Option<String>,
-    pub out: Option<Bytes>,
-    pub out_front: Option<Bytes>,
-    pub out_sha256: Option<String>,
+    pub err: WantedErr,
+    pub out: WantedOut,
     pub left: Option<u64>,
     pub calls: Option<Calls>,
-    #[serde(default)]
     pub streams: Vec<Stream>,
     pub place: Option<String>,
+}
+
+impl Want {
+    /// Reads a want of its keys.
+    pub fn read(alloc: Global, value: Value) -> Result<Want, RowFault> {
+        let mut members = Members::of(alloc, value)?;
+        let status = members.required(alloc, "status")?;
+        let err = WantedErr::read(alloc, &mut members)?;
+        let out = WantedOut::read(alloc, &mut members)?;
+        let left = members.optional(alloc, "left")?;
+        let calls = members.optional(alloc, "calls")?;
+        let streams = members.or(alloc, "streams", Vec::new(alloc))?;
+        let place = members.optional(alloc, "place")?;
+        members.end(alloc)?;
+        Ok(Want {
+            status,
+            err,
+            out,
+            left,
+            calls,
+            streams,
+            place,
+        })
+    }
+
+    /// Reads a want that may not be there.
+    fn read_if(alloc: Global, value: Option<Value>) -> Result<Option<Want>, RowFault> {
+        match value {
+            None => Ok(None),
+            Some(value) => Ok(Some(Want::read(alloc, value)?)),
+        }
+    }
+}
+
+/// What must come on the error output: a line, a front of one, or one that begins so.
+#[derive(Drop)]
+pub struct WantedErr {
+    pub line: Option<String>,
+    pub front: Option<String>,
+    pub begins: Option<String>,
+}
+
+impl WantedErr {
+    fn read(alloc: Global, members: &mut Members) -> Result<WantedErr, RowFault> {
+        let line = members.optional(alloc, "err")?;
+        let front = members.optional(alloc, "err_front")?;
+        let begins = members.optional(alloc, "err_begins")?;
+        Ok(WantedErr {
+            line,
+            front,
+            begins,
+        })
+    }
+}
+
+/// What must come on the output: bytes, a front of bytes, or bytes of a digest.
+#[derive(Drop)]
+pub struct WantedOut {
+    pub whole: Option<Bytes>,
+    pub front: Option<Bytes>,
+    pub sha256: Option<String>,
+}
+
+impl WantedOut {
+    fn read(alloc: Global, members: &mut Members) -> Result<WantedOut, RowFault> {
+        let whole = members.optional(alloc, "out")?;
+        let front = members.optional(alloc, "out_front")?;
+        let sha256 = members.optional(alloc, "out_sha256")?;
+        Ok(WantedOut {
+            whole,
+            front,
+            sha256,
+        })
+    }
 }
 
 /// How many calls each device had.
@@ -270,20 +390,4 @@ pub struct Stream {
 
 fn once() -> u64 {
     1
-}
-
-fn usual_piece() -> usize {
-    4096
-}
-
-fn usual_room() -> usize {
-    65_536
-}
-
-fn usual_streams() -> u32 {
-    9
-}
-
-fn usual_stream_room() -> usize {
-    4096
 }

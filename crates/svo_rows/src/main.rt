@@ -5,7 +5,7 @@
 //! behind that stands how many rows hold and how many runs they made. The exit status is 1 where a row
 //! does not hold or a line is no entry.
 //!
-//! The data's way: a line of the table (`entries`), its bytes (`spelling`), what a run is given
+//! The data's way: a line of the table (`entries`, `members`), its bytes (`spelling`), what a run is given
 //! (`setups`), the run (`running`, over a scratch of `watching`), what it left beside what must come
 //! (`comparing`), the runs of a row (`sweeping`), and all rows (`table`).
 #![tactic(auto)]
@@ -13,6 +13,7 @@
 mod comparing;
 mod entries;
 mod faults;
+mod members;
 mod running;
 mod setups;
 mod spelling;

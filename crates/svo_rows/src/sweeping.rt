@@ -62,28 +62,28 @@ fn setup_of(alloc: Global, shelf: &Shelf<'_>, row: &Row) -> Result<Setup, RowFau
         outputs: shelf.outputs,
         setup: None,
     };
-    let input = match &row.input {
+    let input = match &row.given.input {
         Some(bytes) => spelled(alloc, &known, bytes)?,
         None => Vec::new(alloc),
     };
     let mut files = Vec::new(alloc);
-    for file in row.files.as_slice() {
+    for file in row.given.files.as_slice() {
         files.push(StoreFile {
             name: String::from_str(alloc, file.name.as_str())?,
             bytes: spelled(alloc, &known, &file.are)?,
         })?;
     }
-    if row.piece == 0 {
+    if row.given.piece == 0 {
         return Err(malformed(alloc, "a piece of no byte"));
     }
     Ok(Setup {
         words: words_of(alloc, &row.run)?,
         input,
-        piece: row.piece,
-        room: row.room,
-        streams: row.streams,
-        stream_room: row.stream_room,
-        refuses: Vec::from_slice(alloc, row.refuses.as_slice())?,
+        piece: row.given.piece,
+        room: row.given.room,
+        streams: row.given.streams,
+        stream_room: row.given.stream_room,
+        refuses: Vec::from_slice(alloc, row.given.refuses.as_slice())?,
         files,
     })
 }
@@ -210,7 +210,11 @@ fn sweep_taken(
 ) -> Result<(), RowFault> {
     for before in 0..MOST_CALLS {
         let call = before.saturating_add(1);
-        setup.refuses = with_refusal(alloc, row.refuses.as_slice(), Refusal { call, ..first })?;
+        setup.refuses = with_refusal(
+            alloc,
+            row.given.refuses.as_slice(),
+            Refusal { call, ..first },
+        )?;
         let came = run_once(alloc, setup)?;
         if !came.refused(first.device) {
             return judge_last(alloc, shelf, then, setup, &came, tally);

@@ -4,6 +4,7 @@ use crate::entries::{Entry, NamedBytes, Row};
 use crate::faults::RowFault;
 use crate::spelling::{Known, Names, spelled};
 use crate::sweeping::{Shelf, run_row};
+use serde_json::Value;
 use std::alloc::{AllocError, Global};
 use std::collections::BTreeMap;
 
@@ -39,7 +40,7 @@ impl Table {
         }
         match serde_json::from_str::<Entry>(alloc, line) {
             Ok(Entry::Bytes(bytes)) => self.keep(alloc, number, bytes),
-            Ok(Entry::Row(row)) => self.run(alloc, &row),
+            Ok(Entry::Row(row)) => self.take_row(alloc, number, named_in(line), row),
             Err(error) => {
                 let what = named_in(line);
                 self.complain(format!(in alloc; "line {number}{what}: {error}")?)
@@ -73,6 +74,23 @@ impl Table {
             Ok(made) => {
                 self.named.insert(String::from_str(alloc, name)?, made)?;
                 Ok(())
+            }
+        }
+    }
+
+    /// Reads a row of its keys, and runs it.
+    fn take_row(
+        &mut self,
+        alloc: Global,
+        number: u64,
+        named: &str,
+        row: Value,
+    ) -> Result<(), AllocError> {
+        match Row::read(alloc, row) {
+            Ok(row) => self.run(alloc, &row),
+            Err(RowFault::Memory) => Err(AllocError),
+            Err(RowFault::Malformed(cause)) => {
+                self.complain(format!(in alloc; "line {number}{named}: {cause}")?)
             }
         }
     }
