@@ -4,6 +4,6 @@ pub mod WordCauses
 pub mod WorkedWords
 pub mod MadeBlocks
 pub mod MadeSums
-pub mod Asked
-pub mod Named
+pub mod OpenFileAnswers
+pub mod NamedFileAnswers
 pub mod OneAnswer

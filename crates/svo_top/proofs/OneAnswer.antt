@@ -10,19 +10,19 @@ use Rattle.ray_answers.specs.RayTexts.{rays_of}
 use Rattle.ray_answers.specs.Laws.{AnswersAreOne as RaysHaveOneText}
 use Rattle.slice_view.specs.Laws.{ViewsAreOne}
 use Rattle.ray_fraction.specs.RayShape.{RayShape}
-use Rattle.svo_top.specs.Answering.{bar}
-use Rattle.svo_top.specs.Asking.{Answers, Works, Ends, Asks}
+use Rattle.svo_top.specs.FileAnswers.{bar}
+use Rattle.svo_top.specs.FileQuestion.{Answers, Works, Ends, Asks}
 use Rattle.svo_top.specs.Laws.{IsAnswered, AnswersAreOne}
 use Rattle.svo_top.specs.NodeFiles.{Tells, Keeps}
 use Rattle.svo_top.specs.Picturing.{Views}
 use Rattle.slice_view.specs.Cameras.{CameraShape}
 use Rattle.svo_top.specs.Rays.{Casts, AnswersRays, status_of_end}
-use Rattle.svo_top.specs.declared.asking.Question.{Question}
-use Rattle.svo_top.specs.declared.asking.Question.TheVariants as question
+use Rattle.svo_top.specs.declared.file_question.Question.{Question}
+use Rattle.svo_top.specs.declared.file_question.Question.TheVariants as question
 use Rattle.svo_top.specs.declared.outcome.Status.{Status}
 use Rattle.svo_top.specs.declared.outcome.Status.TheVariants.{Done, Usage, Input, Range, Device, Refused, Memory}
 use Rattle.svo_top.specs.declared.outcome.Device.TheVariants.{Read, Scratch, Write, Nodes}
-use Rattle.svo_top.proofs.Asked.{clash}
+use Rattle.svo_top.proofs.OpenFileAnswers.{clash}
 
 -- a run that is not answered `Memory` ends as it would with memory
 ended : (status wanted : Status) → status ≢ Memory → (status ≡ wanted) ⊎ (status ≡ Memory) → status ≡ wanted

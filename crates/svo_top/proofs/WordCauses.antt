@@ -11,20 +11,20 @@ use Rattle.svo_words.specs.declared.commands.Command.TheVariants.{Build, Why, Ch
 use Rattle.svo_words.specs.declared.commands.WordFault.{WordFault}
 use Rattle.svo_words.specs.declared.commands.WordFault.TheVariants as word
 use Rattle.svo_words.proofs.Meanings.{one_meaning_is}
-use Rattle.svo_top.specs.Asking.{Asks}
+use Rattle.svo_top.specs.FileQuestion.{Asks}
 use Rattle.svo_top.specs.Build.{BuildRun, Finished, IsUntouched}
 use Rattle.svo_top.specs.Commands.{MayBeLate, NamesNodes, ReadsInput}
-use Rattle.svo_top.specs.Doing.{Does, IsForgotten, QuestionRun}
+use Rattle.svo_top.specs.CommandRuns.{Does, IsForgotten, QuestionRun}
 use Rattle.svo_top.specs.Lines.{Says, stop_line}
 use Rattle.svo_top.specs.Causes.{UsageCauses, RangeCauses, RefusalCauses, KeepsDevices}
 use Rattle.svo_top.specs.Endings.{status_of, line_of, EndsBuild, EndsWhy, EndsQuietly}
 use Rattle.svo_top.specs.NodeFiles.{Tells}
-use Rattle.svo_top.specs.Obeying.{Obeys, ObeysQuestion, Stops}
+use Rattle.svo_top.specs.CommandEndings.{CarriesOut, CarriesOutQuestion, Stops}
 use Rattle.svo_top.specs.Ranges.{range_of}
 use Rattle.svo_top.specs.Sum.{EndsSum}
 use Rattle.svo_top.specs.Usage.{fault_of, status_of_fault}
 use Rattle.svo_top.specs.Why.{WhyRun}
-use Rattle.svo_top.specs.declared.asking.Question.{Question}
+use Rattle.svo_top.specs.declared.file_question.Question.{Question}
 use Rattle.svo_top.specs.declared.outcome.Status.{Status}
 use Rattle.svo_top.specs.declared.outcome.Status.TheVariants.{Done, Usage, Input, Range, Device, Refused, Memory}
 use Rattle.svo_top.specs.declared.outcome.UsageKind.{UsageKind}
@@ -143,9 +143,9 @@ module _ (words : List (List ℕ)) (command : Command) (read : IsRead (form_of w
       let both : ◌≡◌ {A = Result Command WordFault} (Ok command) (Ok one) = sym is_command ∙ other in
       cc
 
-  pub obeys_of : (input out : Change) (scratch : ScratchChange) (nodes : StoreChange) (ending : Ending) → Obeys command input out scratch nodes ending → (one : Command) → Means words (Ok one)
-      → Obeys one input out scratch nodes ending
-  obeys_of input out scratch nodes ending obeys one means = let P : Command → Type 0 = λ c. Obeys c input out scratch nodes ending in subst P (same_command one means) obeys
+  pub carries_out_of : (input out : Change) (scratch : ScratchChange) (nodes : StoreChange) (ending : Ending) → CarriesOut command input out scratch nodes ending → (one : Command) → Means words (Ok one)
+      → CarriesOut one input out scratch nodes ending
+  carries_out_of input out scratch nodes ending carries_out one means = let P : Command → Type 0 = λ c. CarriesOut c input out scratch nodes ending in subst P (same_command one means) carries_out
 
   module _ (input out : Change) (scratch : ScratchChange) (nodes : StoreChange) (status : Status) (stops : Stops command input out scratch nodes status) where
     pub usage_of : UsageCauses words status
@@ -196,8 +196,8 @@ finished_by words input out scratch err (Stopped (Refused one)) ends says e = ab
 finished_by words input out scratch err (Stopped Memory) ends says e = absurd cc
 
 run_of_build : (words : BuildWords) (input out : Change) (scratch : ScratchChange) (nodes : StoreChange) (err : Change) (ending : Ending)
-    → Obeys (Build words) input out scratch nodes ending → Says err (line_of ending) → BuildRun words input out scratch err (status_of ending)
-run_of_build words input out scratch nodes err ending obeys says = record { finished = finished_by words input out scratch err ending obeys.0 says; means = obeys.1 }
+    → CarriesOut (Build words) input out scratch nodes ending → Says err (line_of ending) → BuildRun words input out scratch err (status_of ending)
+run_of_build words input out scratch nodes err ending carries_out says = record { finished = finished_by words input out scratch err ending carries_out.0 says; means = carries_out.1 }
 
 no_line : (ending : Ending) → EndsWhy ending → status_of ending ≡ Done → line_of ending ≡ []
 no_line (EndsBuilt counts) ends e = absurd ends
@@ -234,29 +234,29 @@ sum_line_none (Stopped (Refused one)) ends e = absurd ends
 sum_line_none (Stopped Memory) ends e = absurd cc
 
 run_of_why : (words : WhyWords) (input out : Change) (scratch : ScratchChange) (nodes : StoreChange) (err : Change) (ending : Ending)
-    → Obeys (Why words) input out scratch nodes ending → (line_of ending ≡ [] → IsKept err) → WhyRun words input out scratch err (status_of ending)
-run_of_why words input out scratch nodes err ending obeys silent =
-    record { means = obeys.1; unread = obeys.2; unspilled = obeys.3; silent = λ e. silent (no_line ending obeys.0 e) }
+    → CarriesOut (Why words) input out scratch nodes ending → (line_of ending ≡ [] → IsKept err) → WhyRun words input out scratch err (status_of ending)
+run_of_why words input out scratch nodes err ending carries_out silent =
+    record { means = carries_out.1; unread = carries_out.2; unspilled = carries_out.3; silent = λ e. silent (no_line ending carries_out.0 e) }
 
 run_of_question : (question : Question) (name : List ℕ) (range : Option RangeFault) (input out : Change) (scratch : ScratchChange) (nodes : StoreChange) (err : Change) (ending : Ending)
-    → ObeysQuestion question name range input out nodes ending → IsScratchKept scratch → (line_of ending ≡ [] → IsKept err)
+    → CarriesOutQuestion question name range input out nodes ending → IsScratchKept scratch → (line_of ending ≡ [] → IsKept err)
     → QuestionRun question name range input out scratch nodes err (status_of ending)
-run_of_question question name range input out scratch nodes err ending obeys kept silent =
-    record { asks = obeys.asks; unspilled = kept; silent = λ e. silent (quiet_line ending obeys.quiet e) }
+run_of_question question name range input out scratch nodes err ending carries_out kept silent =
+    record { asks = carries_out.asks; unspilled = kept; silent = λ e. silent (quiet_line ending carries_out.quiet e) }
 
 module _ (input out : Change) (scratch : ScratchChange) (nodes : StoreChange) (err : Change) (ending : Ending) (says : Says err (line_of ending)) (silent : line_of ending ≡ [] → IsKept err) where
-  does_it : (command : Command) → Obeys command input out scratch nodes ending → Does command input out scratch nodes err (status_of ending)
-  does_it (Build words) obeys = (run_of_build words input out scratch nodes err ending obeys says, obeys.2)
-  does_it (Why words) obeys = (run_of_why words input out scratch nodes err ending obeys silent, obeys.4)
-  does_it (Check words) obeys = run_of_question _ words.nodes None input out scratch nodes err ending obeys.0 obeys.1 silent
-  does_it (Has words) obeys = run_of_question _ words.nodes None input out scratch nodes err ending obeys.0 obeys.1 silent
-  does_it (Cells words) obeys = run_of_question _ words.nodes _ input out scratch nodes err ending obeys.0 obeys.1 silent
-  does_it (Lift words) obeys = run_of_question _ words.nodes None input out scratch nodes err ending obeys.0 obeys.1 silent
-  does_it (Cast words) obeys = run_of_question _ words.nodes _ input out scratch nodes err ending obeys.0 obeys.1 silent
-  does_it (Slice words) obeys = run_of_question _ words.nodes _ input out scratch nodes err ending obeys.0 obeys.1 silent
-  does_it (View words) obeys = record { asks = obeys.0.asks; unspilled = obeys.1; silent = λ e. silent (quiet_line ending obeys.0.quiet e) }
-  does_it (Make words) obeys = (record { means = obeys.1; unread = obeys.2; unspilled = obeys.3; silent = λ e. silent (no_line ending obeys.0 e) }, obeys.4)
-  does_it (Sum words) obeys = (record { means = obeys.1; unread = obeys.2; silent = λ e. silent (sum_line_none ending obeys.0 e) }, obeys.3)
+  does_it : (command : Command) → CarriesOut command input out scratch nodes ending → Does command input out scratch nodes err (status_of ending)
+  does_it (Build words) carries_out = (run_of_build words input out scratch nodes err ending carries_out says, carries_out.2)
+  does_it (Why words) carries_out = (run_of_why words input out scratch nodes err ending carries_out silent, carries_out.4)
+  does_it (Check words) carries_out = run_of_question _ words.nodes None input out scratch nodes err ending carries_out.0 carries_out.1 silent
+  does_it (Has words) carries_out = run_of_question _ words.nodes None input out scratch nodes err ending carries_out.0 carries_out.1 silent
+  does_it (Cells words) carries_out = run_of_question _ words.nodes _ input out scratch nodes err ending carries_out.0 carries_out.1 silent
+  does_it (Lift words) carries_out = run_of_question _ words.nodes None input out scratch nodes err ending carries_out.0 carries_out.1 silent
+  does_it (Cast words) carries_out = run_of_question _ words.nodes _ input out scratch nodes err ending carries_out.0 carries_out.1 silent
+  does_it (Slice words) carries_out = run_of_question _ words.nodes _ input out scratch nodes err ending carries_out.0 carries_out.1 silent
+  does_it (View words) carries_out = record { asks = carries_out.0.asks; unspilled = carries_out.1; silent = λ e. silent (quiet_line ending carries_out.0.quiet e) }
+  does_it (Make words) carries_out = (record { means = carries_out.1; unread = carries_out.2; unspilled = carries_out.3; silent = λ e. silent (no_line ending carries_out.0 e) }, carries_out.4)
+  does_it (Sum words) carries_out = (record { means = carries_out.1; unread = carries_out.2; silent = λ e. silent (sum_line_none ending carries_out.0 e) }, carries_out.3)
 
-  pub does : (status : Status) → status ≡ status_of ending → (command : Command) → Obeys command input out scratch nodes ending → Does command input out scratch nodes err status
-  does status is command obeys = let P : Status → Type 0 = λ s. Does command input out scratch nodes err s in subst P (sym is) (does_it command obeys)
+  pub does : (status : Status) → status ≡ status_of ending → (command : Command) → CarriesOut command input out scratch nodes ending → Does command input out scratch nodes err status
+  does status is command carries_out = let P : Status → Type 0 = λ s. Does command input out scratch nodes err s in subst P (sym is) (does_it command carries_out)

@@ -4,11 +4,11 @@ use Rattle.svo_words.specs.declared.commands.Command.{Command}
 use Rattle.svo_words.specs.declared.commands.Command.TheVariants as command
 use Rattle.std.specs.Option.{option_map}
 use Rattle.std.specs.Result.{result_ok}
-use Rattle.svo_top.specs.Asking.{IsLate}
+use Rattle.svo_top.specs.FileQuestion.{IsLate}
 use Rattle.svo_top.specs.Picturing.{axis_from, camera_of}
 use Rattle.svo_top.specs.Ranges.{range_of_keep}
-use Rattle.svo_top.specs.declared.asking.Question.{Question}
-use Rattle.svo_top.specs.declared.asking.Question.TheVariants.{Check, Has, Cells, Lift, Cast, Slice, View}
+use Rattle.svo_top.specs.declared.file_question.Question.{Question}
+use Rattle.svo_top.specs.declared.file_question.Question.TheVariants.{Check, Has, Cells, Lift, Cast, Slice, View}
 use Rattle.svo_top.specs.declared.outcome.RangeFault.{RangeFault}
 
 abbrev pub question_of : Command → Option Question

@@ -3,10 +3,10 @@ use Rattle.std.specs.Prelude.{◌≡◌, ◌≢◌, ℕ, List, Option, None, Som
 use Rattle.svo_base.specs.GridShape.{GridShape}
 use Rattle.dev_traits.specs.Change.{Change, StoreChange, IsFaultless}
 use Rattle.octree_specs.specs.Cells.{Cell}
-use Rattle.svo_top.specs.Answering.{bar}
-use Rattle.svo_top.specs.Asking.{Asks}
+use Rattle.svo_top.specs.FileAnswers.{bar}
+use Rattle.svo_top.specs.FileQuestion.{Asks}
 use Rattle.svo_top.specs.NodeFiles.{Tells, Keeps}
-use Rattle.svo_top.specs.declared.asking.Question.{Question}
+use Rattle.svo_top.specs.declared.file_question.Question.{Question}
 use Rattle.svo_top.specs.declared.outcome.Status.{Status}
 use Rattle.svo_top.specs.declared.outcome.Status.TheVariants.{Memory}
 

@@ -13,7 +13,7 @@ use Rattle.svo_top.specs.declared.outcome.UsageKind.TheVariants.{Command, Option
 use Rattle.svo_top.specs.declared.outcome.InputKind.{InputKind}
 use Rattle.svo_top.specs.declared.outcome.InputKind.TheVariants.{Ply, BadRay, LineTooLong, TooLong}
 use Rattle.svo_top.specs.declared.outcome.RangeFault.{RangeFault}
-use Rattle.svo_top.specs.declared.outcome.RangeFault.TheVariants.{Decimals, Grid, Memory as TooMuch, LeastMemory, Triangle, Cube, Keep, Code, Made, Slice, View, Ray}
+use Rattle.svo_top.specs.declared.outcome.RangeFault.TheVariants.{Decimals, Grid, TooLarge, TooSmall, Triangle, Cube, Keep, Code, Made, Slice, View, Ray}
 use Rattle.svo_top.specs.declared.outcome.Device.{Device as DeviceName}
 use Rattle.svo_top.specs.declared.outcome.Device.TheVariants.{Read, Scratch, Write, Nodes}
 use Rattle.svo_top.specs.declared.outcome.NodeRefusal.{NodeRefusal}
@@ -59,8 +59,8 @@ grid_word TooWide = codes "wide"
 abbrev pub range_word : RangeFault → List ℕ
 range_word Decimals = codes "decimals"
 range_word (Grid fault) = grid_word fault
-range_word TooMuch = codes "memory"
-range_word (LeastMemory least) = codes "memory least " ++ decimal least
+range_word TooLarge = codes "memory"
+range_word (TooSmall least) = codes "memory least " ++ decimal least
 range_word Triangle = codes "triangle"
 range_word Cube = codes "cube"
 range_word Keep = codes "keep"

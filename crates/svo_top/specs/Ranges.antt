@@ -20,14 +20,14 @@ use Rattle.build_core.specs.declared.jobs.Job.{Job}
 use Rattle.build_core.specs.Meshes.{depth_of}
 use Rattle.room_plan.specs.declared.planning.MemPlan.{MemPlan}
 use Rattle.room_plan.specs.declared.planning.PlanFault.{PlanFault}
-use Rattle.room_plan.specs.declared.planning.PlanFault.TheVariants.{TooLarge, TooSmall}
+use Rattle.room_plan.specs.declared.planning.PlanFault.TheVariants as plan
 use Rattle.room_plan.specs.Planning.{plan_from}
 use Rattle.svo_top.specs.Picturing.{camera_of}
-use Rattle.svo_top.specs.Questions.{triangle_from, cube_from}
+use Rattle.svo_top.specs.WhyQuestion.{triangle_from, cube_from}
 use Rattle.svo_top.specs.declared.outcome.Status.{Status}
 use Rattle.svo_top.specs.declared.outcome.Status.TheVariants.{Range}
 use Rattle.svo_top.specs.declared.outcome.RangeFault.{RangeFault}
-use Rattle.svo_top.specs.declared.outcome.RangeFault.TheVariants.{Decimals, Grid, Memory, LeastMemory, Triangle, Cube, Keep, Made}
+use Rattle.svo_top.specs.declared.outcome.RangeFault.TheVariants.{Decimals, Grid, TooLarge, TooSmall, Triangle, Cube, Keep, Made}
 
 -- ---- a build's numbers
 
@@ -52,8 +52,8 @@ choice_from depth None cell = fitted_at depth
 
 abbrev pub planned_job : ℕ → Bool → GridChoice → Result MemPlan PlanFault → Result Job RangeFault
 planned_job decimals cut grid (Ok plan) = Ok (record { grid = grid; decimals = decimals; cut = cut; plan = plan })
-planned_job decimals cut grid (Err TooLarge) = Err Memory
-planned_job decimals cut grid (Err (TooSmall least)) = Err (LeastMemory least)
+planned_job decimals cut grid (Err plan.TooLarge) = Err TooLarge
+planned_job decimals cut grid (Err (plan.TooSmall least)) = Err (TooSmall least)
 
 abbrev pub job_on : BuildWords → Result GridChoice GridFault → Result Job RangeFault
 job_on words (Ok grid) = planned_job (unsigned_abs words.decimals) words.cut grid (plan_from (depth_of grid) words.memory)

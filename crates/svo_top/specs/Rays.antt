@@ -14,7 +14,7 @@ use Rattle.ray_answers.specs.declared.stops.RayStop.TheVariants as stop
 use Rattle.svo_top.specs.declared.outcome.Status.{Status}
 use Rattle.svo_top.specs.declared.outcome.Status.TheVariants.{Done, Usage, Input, Range, Device, Refused, Memory}
 use Rattle.svo_top.specs.declared.outcome.InputKind.TheVariants.{Ply, BadRay, LineTooLong, TooLong}
-use Rattle.svo_top.specs.declared.outcome.RangeFault.TheVariants.{Decimals, Grid, Memory as TooMuch, LeastMemory, Triangle, Cube, Keep, Code, Made, Ray}
+use Rattle.svo_top.specs.declared.outcome.RangeFault.TheVariants.{Decimals, Grid, TooLarge, TooSmall, Triangle, Cube, Keep, Code, Made, Ray}
 use Rattle.svo_top.specs.declared.outcome.NodeRefusal.TheVariants.{Number}
 use Rattle.svo_top.specs.declared.outcome.Device.TheVariants.{Read, Scratch, Write, Nodes}
 

@@ -8,7 +8,7 @@ use Rattle.tri_cube.specs.Verdicts.{Says as Judges}
 use Rattle.tri_cube.specs.declared.verdicts.Verdict.{Verdict}
 use Rattle.tri_cube.specs.declared.verdicts.Verdict.TheVariants.{Meets, Apart}
 use Rattle.svo_words.specs.declared.why.WhyWords.{WhyWords}
-use Rattle.svo_top.specs.Questions.{triangle_from, cube_from}
+use Rattle.svo_top.specs.WhyQuestion.{triangle_from, cube_from}
 use Rattle.svo_top.specs.Ranges.{range_of_question}
 use Rattle.svo_top.specs.declared.outcome.Status.{Status}
 use Rattle.svo_top.specs.declared.outcome.Status.TheVariants.{Done, Device, Memory}

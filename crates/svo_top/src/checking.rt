@@ -5,7 +5,7 @@ ghost use Rattle.arrayvec.specs.ArrayString.{array_string_len};
 ghost use Rattle.octree_specs.specs.Cells.{Cell};
 ghost use Rattle.octree_specs.specs.Formats.{file_words};
 ghost use Rattle.node_check.specs.Stops.{Puts, HasStopCause};
-ghost use Rattle.svo_top.specs.Answering.{check_line};
+ghost use Rattle.svo_top.specs.FileAnswers.{check_line};
 ghost use Rattle.svo_top.specs.NodeFiles.{KeepsCells};
 
 use crate::putting::put_text;
@@ -30,7 +30,7 @@ pub fn tell_numbers<R: Records, O: ByteSink>(nodes: &R, out: &mut O) -> Result<(
 }
 
 /// The line of a file that is a node file.
-#[tactic(auto, unfolding(crate::specs::Answering::check_line))]
+#[tactic(auto, unfolding(crate::specs::FileAnswers::check_line))]
 fn check_line(depth: u32, records: u64, cells: u64) -> AnswerLine
     ensures { result.bytes ≡ check_line depth records cells }
 {

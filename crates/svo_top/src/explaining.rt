@@ -10,8 +10,8 @@ ghost use Rattle.svo_top.specs.Ranges.{RangeIs, range_of_question};
 ghost use Rattle.svo_top.specs.Why.{verdict_line, WhyMeans};
 
 use crate::outcome::{Device, RangeFault, Status};
-use crate::questions::{cube_of, triangle_of};
 use crate::reporting::Ending;
+use crate::why_question::{cube_of, triangle_of};
 use arrayvec::ArrayString;
 use dev_traits::{ByteSink, Failed};
 use itoa::Buffer;

@@ -37,14 +37,14 @@ pub fn planned_job(
     cut: bool,
     memory: i64,
 ) -> Result<Job, RangeFault>
-    requires depth { (1 ≤ depth_of grid) × (depth_of grid ≤ 12) }
+    requires depth { (1 ≤ depth_of grid) × (depth_of grid ≤ MAX_DEPTH) }
     requires decimals { decimals ≤ 9 }
     ensures job { result ≡ planned_job decimals cut grid (plan_from (depth_of grid) memory) }
     ensures is { IfOk result IsJob }
 {
     match plan(depth_of(&grid), memory) {
-        Err(PlanFault::TooLarge) => Err(RangeFault::Memory),
-        Err(PlanFault::TooSmall(least)) => Err(RangeFault::LeastMemory(least)),
+        Err(PlanFault::TooLarge) => Err(RangeFault::TooLarge),
+        Err(PlanFault::TooSmall(least)) => Err(RangeFault::TooSmall(least)),
         Ok(plan) => Ok(Job {
             grid,
             decimals,
@@ -74,7 +74,7 @@ pub fn choice_of(
     cell: &Option<i64>,
 ) -> Result<GridChoice, GridFault>
     ensures choice { result ≡ choice_from depth origin.now cell.now }
-    ensures depth { IfOk result (λ choice. (1 ≤ depth_of choice) × (depth_of choice ≤ 12)) }
+    ensures depth { IfOk result (λ choice. (1 ≤ depth_of choice) × (depth_of choice ≤ MAX_DEPTH)) }
 {
     let (Some(origin), Some(cell)) = (origin, cell) else {
         return fitted_at(depth);
@@ -88,7 +88,7 @@ pub fn choice_of(
 /// A grid of a depth that is to be fitted.
 fn fitted_at(depth: i64) -> Result<GridChoice, GridFault>
     ensures choice { result ≡ fitted_at depth }
-    ensures depth { IfOk result (λ choice. (1 ≤ depth_of choice) × (depth_of choice ≤ 12)) }
+    ensures depth { IfOk result (λ choice. (1 ≤ depth_of choice) × (depth_of choice ≤ MAX_DEPTH)) }
 {
     if (1..=i64::from(MAX_DEPTH)).contains(&depth) {
         Ok(GridChoice::Fit(depth.unsigned_abs() as u32))

@@ -4,7 +4,7 @@ ghost use Rattle.std.specs.Prelude.{◌≡◌, ◌<◌, ◌^◌, is_some, List};
 ghost use Rattle.octree_specs.specs.Cells.{Cell};
 ghost use Rattle.node_check.specs.Stops.{Puts, HasStopCause};
 ghost use Rattle.node_check.specs.Walks.{face_at};
-ghost use Rattle.svo_top.specs.Answering.{has_line};
+ghost use Rattle.svo_top.specs.FileAnswers.{has_line};
 ghost use Rattle.svo_top.specs.NodeFiles.{KeepsCells};
 
 use crate::putting::put_text;
@@ -33,7 +33,7 @@ pub fn tell_membership<R: Records, O: ByteSink, L: Ledger>(
 }
 
 /// The answer's line.
-#[tactic(auto, unfolding(crate::specs::Answering::has_line))]
+#[tactic(auto, unfolding(crate::specs::FileAnswers::has_line))]
 fn has_line(filled: bool) -> &'static str
     ensures { result.now ≡ has_line filled }
 {

@@ -57,9 +57,9 @@ pub enum RangeFault {
     /// A limit of the grid.
     Grid(GridFault),
     /// The memory is above 2^31 bytes.
-    Memory,
+    TooLarge,
     /// The memory is below the least for the depth, which is carried, in bytes.
-    LeastMemory(u64),
+    TooSmall(u64),
     /// A coordinate of the triangle has a size above 2^30.
     Triangle,
     /// A coordinate of the cube's lower corner has a size above 2^32, or its side is not from 1 to 2^32.

@@ -4,12 +4,12 @@ ghost use Rattle.std.specs.Prelude.{◌≡◌, ◌≢◌, None};
 ghost use Rattle.dev_traits.specs.Change.{change_of};
 ghost use Rattle.svo_top.specs.Causes.{DeviceCause};
 ghost use Rattle.svo_top.specs.Endings.{status_of};
-ghost use Rattle.svo_top.specs.Obeying.{ObeysView, StopsView};
+ghost use Rattle.svo_top.specs.CommandEndings.{CarriesOutView, StopsView};
 ghost use Rattle.svo_top.specs.Picturing.{axis_from, camera_of, kind_from};
 
-use crate::asking::{Question, ask};
+use crate::file_commands::keep_from;
+use crate::file_question::{Question, ask};
 use crate::outcome::{Device, RangeFault, Status};
-use crate::questioning::keep_from;
 use crate::reporting::Ending;
 use dev_traits::{ByteSink, ByteSource, NodeStore};
 use slice_view::{Axis, Camera, CameraKind};
@@ -25,7 +25,7 @@ pub fn show_view<I: ByteSource, O: ByteSink, N: NodeStore>(
     out: &mut O,
     nodes: &mut N,
 ) -> Ending
-    ensures obeys { ObeysView words.now
+    ensures carries_out { CarriesOutView words.now
         (change_of I.rest I.faults input.old input.new)
         (change_of O.written O.faults out.old out.new)
         (change_of N.files N.faults nodes.old nodes.new) result }

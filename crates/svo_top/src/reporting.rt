@@ -196,8 +196,8 @@ fn range_line(fault: RangeFault) -> Line
     match fault {
         RangeFault::Decimals => line.push_str("decimals"),
         RangeFault::Grid(fault) => line.push_str(grid_word(fault)),
-        RangeFault::Memory => line.push_str("memory"),
-        RangeFault::LeastMemory(least) => {
+        RangeFault::TooLarge => line.push_str("memory"),
+        RangeFault::TooSmall(least) => {
             line.push_str("memory least ");
             push_number(&mut line, least);
         }

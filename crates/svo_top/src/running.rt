@@ -3,19 +3,19 @@
 ghost use Rattle.std.specs.Prelude.{◌≡◌, ◌⊎◌, None, Ok};
 ghost use Rattle.dev_traits.specs.Change.{change_of, scratch_change_of};
 ghost use Rattle.svo_top.specs.Causes.{UsageCauses, RangeCauses, RefusalCauses, DeviceCause, KeepsDevices, SaysWhy};
-ghost use Rattle.svo_top.specs.Doing.{Does, IsForgotten};
+ghost use Rattle.svo_top.specs.CommandRuns.{Does, IsForgotten};
 ghost use Rattle.svo_top.specs.Endings.{status_of};
-ghost use Rattle.svo_top.specs.Obeying.{Obeys, Stops};
+ghost use Rattle.svo_top.specs.CommandEndings.{CarriesOut, Stops};
 ghost use Rattle.svo_top.specs.Usage.{status_of_fault};
 ghost use Rattle.svo_words.specs.Meaning.{Means};
 
-use crate::asking::Question;
 use crate::building::build;
 use crate::explaining::explain;
+use crate::file_commands::{carry_out_question, keep_from, usual_keep};
+use crate::file_question::Question;
 use crate::making::make;
 use crate::outcome::{Device, Status, UsageKind};
 use crate::picturing::{axis_from, show_view};
-use crate::questioning::{keep_from, obey_question, usual_keep};
 use crate::reporting::{Ending, report};
 use crate::summing::sum;
 use dev_traits::{ByteSink, ByteSource, NodeStore, Scratch};
@@ -95,11 +95,11 @@ fn carry_out<I: ByteSource, O: ByteSink, S: Scratch, N: NodeStore>(
     ensures write { DeviceCause Device.Write (change_of O.written O.faults out.old out.new) (status_of result) }
     ensures scratch { DeviceCause Device.Scratch (change_of S.told S.faults scratch.old scratch.new) (status_of result) }
     ensures nodes { DeviceCause Device.Nodes (change_of N.files N.faults nodes.old nodes.new) (status_of result) }
-    ensures obeys { (command : Command) → Means words.now (Ok command) → IsForgotten
+    ensures carries_out { (command : Command) → Means words.now (Ok command) → IsForgotten
         (change_of I.rest I.faults input.old input.new)
         (change_of O.written O.faults out.old out.new)
         (scratch_change_of S.told S.asked S.faults scratch.old scratch.new)
-        (change_of N.files N.faults nodes.old nodes.new) (status_of result) ⊎ Obeys command
+        (change_of N.files N.faults nodes.old nodes.new) (status_of result) ⊎ CarriesOut command
         (change_of I.rest I.faults input.old input.new)
         (change_of O.written O.faults out.old out.new)
         (scratch_change_of S.told S.asked S.faults scratch.old scratch.new)
@@ -112,12 +112,12 @@ fn carry_out<I: ByteSource, O: ByteSink, S: Scratch, N: NodeStore>(
 {
     match read_words(alloc, words) {
         Err(fault) => Ending::Stopped(status_of_fault(fault)),
-        Ok(command) => obey(alloc, &command, input, out, scratch, nodes),
+        Ok(command) => carry_out_command(alloc, &command, input, out, scratch, nodes),
     }
 }
 
 /// Carries out a command.
-fn obey<I: ByteSource, O: ByteSink, S: Scratch, N: NodeStore>(
+fn carry_out_command<I: ByteSource, O: ByteSink, S: Scratch, N: NodeStore>(
     alloc: Global,
     command: &Command,
     input: &mut I,
@@ -131,7 +131,7 @@ fn obey<I: ByteSource, O: ByteSink, S: Scratch, N: NodeStore>(
         (change_of O.written O.faults out.old out.new)
         (scratch_change_of S.told S.asked S.faults scratch.old scratch.new)
         (change_of N.files N.faults nodes.old nodes.new) (status_of result) }
-    ensures obeys { Obeys command.now
+    ensures carries_out { CarriesOut command.now
         (change_of I.rest I.faults input.old input.new)
         (change_of O.written O.faults out.old out.new)
         (scratch_change_of S.told S.asked S.faults scratch.old scratch.new)
@@ -150,30 +150,30 @@ fn obey<I: ByteSource, O: ByteSink, S: Scratch, N: NodeStore>(
         Command::View(words) => show_view(alloc, words, input, out, nodes),
         Command::Check(words) => {
             let question = Question::Check;
-            obey_question(usual, &words.nodes, &question, input, out, nodes)
+            carry_out_question(usual, &words.nodes, &question, input, out, nodes)
         }
         Command::Has(words) => {
             let question = Question::Has(words.code);
-            obey_question(usual, &words.nodes, &question, input, out, nodes)
+            carry_out_question(usual, &words.nodes, &question, input, out, nodes)
         }
         Command::Lift(words) => {
             let question = Question::Lift;
-            obey_question(usual, &words.nodes, &question, input, out, nodes)
+            carry_out_question(usual, &words.nodes, &question, input, out, nodes)
         }
         Command::Cells(words) => {
             let keep = keep_from(alloc, words.keep);
             let question = Question::Cells;
-            obey_question(keep, &words.nodes, &question, input, out, nodes)
+            carry_out_question(keep, &words.nodes, &question, input, out, nodes)
         }
         Command::Cast(words) => {
             let keep = keep_from(alloc, words.keep);
             let question = Question::Cast;
-            obey_question(keep, &words.nodes, &question, input, out, nodes)
+            carry_out_question(keep, &words.nodes, &question, input, out, nodes)
         }
         Command::Slice(words) => {
             let keep = keep_from(alloc, words.keep);
             let question = Question::Slice(axis_from(words.axis), words.at);
-            obey_question(keep, &words.nodes, &question, input, out, nodes)
+            carry_out_question(keep, &words.nodes, &question, input, out, nodes)
         }
     }
 }

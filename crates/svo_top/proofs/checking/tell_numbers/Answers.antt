@@ -1,8 +1,8 @@
 -- The file's numbers are those of its words and cells.
 use Rattle.std.proofs.Common.{ℕ, List, ◌∙◌, sym, subst, rules, ◌≡◌}
 use Rattle.node_check.specs.Stops.{Puts}
-use Rattle.svo_top.specs.Answering.{check_line}
-use Rattle.svo_top.proofs.Asked.{numbers_are}
+use Rattle.svo_top.specs.FileAnswers.{check_line}
+use Rattle.svo_top.proofs.OpenFileAnswers.{numbers_are}
 use Rattle.svo_top.proofs.checking.tell_numbers.Goals as goal
 
 pub returns-clause-told : goal.returns-clause-told

@@ -1,6 +1,6 @@
 use Rattle.std.proofs.Common.{sym, subst, inl, inr, ⊎_elim}
 use Rattle.dev_traits.specs.Change.{change_of, scratch_change_of}
-use Rattle.svo_top.specs.Doing.{IsForgotten}
+use Rattle.svo_top.specs.CommandRuns.{IsForgotten}
 use Rattle.svo_top.specs.declared.outcome.Status.{Status}
 use Rattle.svo_top.proofs.WordCauses.{does}
 use Rattle.svo_top.proofs.running.run.Goals as goal
@@ -15,5 +15,5 @@ returns-clause-does g c =
     λ command means.
     let Forgotten : Status → Type 0 = λ status. IsForgotten input out scratch nodes status in
     ⊎_elim (λ forgotten. inl (subst Forgotten (sym c.status.ensures) forgotten))
-    (λ obeys. inr (does input out scratch nodes err c.carry_out-ending.result c.report.ensures.says c.report.ensures.silent c.status.result c.status.ensures command obeys))
-    (c.carry_out-ending.ensures.obeys command means)
+    (λ carries_out. inr (does input out scratch nodes err c.carry_out-ending.result c.report.ensures.says c.report.ensures.silent c.status.result c.status.ensures command carries_out))
+    (c.carry_out-ending.ensures.carries_out command means)

@@ -21,13 +21,13 @@ use Rattle.node_file.specs.declared.loading.LoadFault.TheVariants as load
 use Rattle.ray_answers.specs.RayTexts.{rays_of}
 use Rattle.ray_answers.specs.declared.stops.RayStop.{RayStop}
 use Rattle.svo_top.specs.Rays.{EndsText}
-use Rattle.svo_top.specs.Answering.{bar, is_code}
+use Rattle.svo_top.specs.FileAnswers.{bar, is_code}
 use Rattle.svo_top.specs.Picturing.{is_layer}
-use Rattle.svo_top.specs.Asking.{Works, Admits, AsksFile, AsksBytes, EndsAtOnce, IsLate, NeedsGrid, Ends, Reads, Asks, keeps_blocks}
+use Rattle.svo_top.specs.FileQuestion.{Works, Admits, AsksFile, AsksBytes, EndsAtOnce, IsLate, NeedsGrid, Ends, Reads, Asks, keeps_blocks}
 use Rattle.svo_top.specs.Loaded.{status_of_load}
 use Rattle.svo_top.specs.NodeFiles.{Tells, IsRefusedAt, IsRefusedFor, Keeps, KeepsCells, refused_of}
-use Rattle.svo_top.specs.declared.asking.Question.{Question}
-use Rattle.svo_top.specs.declared.asking.Question.TheVariants as question
+use Rattle.svo_top.specs.declared.file_question.Question.{Question}
+use Rattle.svo_top.specs.declared.file_question.Question.TheVariants as question
 use Rattle.svo_top.specs.declared.outcome.Status.{Status}
 use Rattle.svo_top.specs.declared.outcome.Status.TheVariants.{Done, Usage, Input, Range, Device, Refused, Memory}
 use Rattle.svo_top.specs.declared.outcome.RangeFault.{RangeFault}
@@ -35,7 +35,7 @@ use Rattle.svo_top.specs.declared.outcome.RangeFault.TheVariants.{Code, Slice as
 use Rattle.svo_top.specs.declared.outcome.NodeRefusal.{NodeRefusal}
 use Rattle.svo_top.specs.declared.outcome.NodeRefusal.TheVariants.{NoFile, NotNodes, Number}
 use Rattle.svo_top.specs.declared.outcome.Device.TheVariants.{Read, Scratch, Write, Nodes}
-use Rattle.svo_top.proofs.Asked.{clash, later_quiet, works_failed, works_memory, works_later, keeps_if_accepted}
+use Rattle.svo_top.proofs.OpenFileAnswers.{clash, later_quiet, works_failed, works_memory, works_later, keeps_if_accepted}
 
 at_some : {T : Type 0} (o : Option T) (x : T) (P : T → Type 0) → o ≡ Some x → IfSome o P → P x
 at_some o x P is holds = subst (λ p. IfSome p P) is holds

@@ -20,7 +20,7 @@ use Rattle.node_check.specs.Stops.{Puts, HasStopCause}
 use Rattle.node_check.specs.declared.stops.AnswerStop.{AnswerStop}
 use Rattle.node_check.specs.declared.stops.AnswerStop.TheVariants.{WriteFault, Walk}
 use Rattle.node_check.specs.declared.walking.WalkFault.TheVariants as walk
-use Rattle.svo_top.specs.Answering.{bar, check_line}
+use Rattle.svo_top.specs.FileAnswers.{bar, check_line}
 use Rattle.ply_reader.specs.WholeMeshes.{IsReadTo}
 use Rattle.ray_fraction.specs.RayShape.{RayShape}
 use Rattle.ray_walk.specs.Answers.{TellsCells}
@@ -29,7 +29,7 @@ use Rattle.ray_answers.specs.RayTexts.{rays_of}
 use Rattle.ray_answers.specs.declared.stops.RayStop.{RayStop}
 use Rattle.ray_answers.specs.declared.stops.RayStop.TheVariants as stop
 use Rattle.svo_top.specs.Rays.{Casts, ReadsRays, AnswersRays, status_of_end, status_of_rays}
-use Rattle.svo_top.specs.Asking.{MayEnd, ComesAfterFile, Answers, Works, Admits, AsksFile, Ends, EndsAtOnce, NeedsGrid}
+use Rattle.svo_top.specs.FileQuestion.{MayEnd, ComesAfterFile, Answers, Works, Admits, AsksFile, Ends, EndsAtOnce, NeedsGrid}
 use Rattle.slice_view.specs.Cameras.{CameraShape}
 use Rattle.slice_view.specs.Pictures.{pgm_header}
 use Rattle.slice_view.specs.Views.{PutsView}
@@ -38,12 +38,12 @@ use Rattle.slice_view.specs.declared.axes.Axis.{Axis}
 use Rattle.svo_top.specs.Picturing.{Views}
 use Rattle.svo_top.specs.Loaded.{status_of_answer}
 use Rattle.svo_top.specs.NodeFiles.{KeepsCells, refused_of}
-use Rattle.svo_top.specs.declared.asking.Question.{Question}
-use Rattle.svo_top.specs.declared.asking.Question.TheVariants as question
+use Rattle.svo_top.specs.declared.file_question.Question.{Question}
+use Rattle.svo_top.specs.declared.file_question.Question.TheVariants as question
 use Rattle.svo_top.specs.declared.outcome.Status.{Status}
 use Rattle.svo_top.specs.declared.outcome.Status.TheVariants.{Done, Usage, Input, Range, Device, Refused, Memory}
 use Rattle.svo_top.specs.declared.outcome.RangeFault.{RangeFault}
-use Rattle.svo_top.specs.declared.outcome.RangeFault.TheVariants.{Decimals, Grid, Memory as TooMuch, LeastMemory, Triangle, Cube, Keep, Code, Made, Slice as BadSlice, View as BadView, Ray}
+use Rattle.svo_top.specs.declared.outcome.RangeFault.TheVariants.{Decimals, Grid, TooLarge, TooSmall, Triangle, Cube, Keep, Code, Made, Slice as BadSlice, View as BadView, Ray}
 use Rattle.svo_top.specs.declared.outcome.NodeRefusal.{NodeRefusal}
 use Rattle.svo_top.specs.declared.outcome.NodeRefusal.TheVariants.{NoFile, NotNodes, Number}
 use Rattle.svo_top.specs.declared.outcome.Device.TheVariants.{Read, Scratch, Write, Nodes}
@@ -432,8 +432,8 @@ module _ (question : Question) (file : FileView) (framed : IsFileView file) (inp
       early : (one : RangeFault) → NeedsGrid one → ComesAfterFile (Range one) → ⊥
       early Decimals needs after = needs
       early (Grid one) needs after = needs
-      early TooMuch needs after = needs
-      early (LeastMemory least) needs after = needs
+      early TooLarge needs after = needs
+      early (TooSmall least) needs after = needs
       early Triangle needs after = needs
       early Cube needs after = needs
       early Keep needs after = needs

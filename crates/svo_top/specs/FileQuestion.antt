@@ -10,7 +10,7 @@ use Rattle.node_check.specs.Stops.{PutsFront}
 use Rattle.node_check.specs.Walks.{face_at}
 use Rattle.node_file.specs.FileView.{FileView}
 use Rattle.cell_lists.specs.Lists.{cells_text}
-use Rattle.svo_top.specs.Answering.{bar, check_line, has_line}
+use Rattle.svo_top.specs.FileAnswers.{bar, check_line, has_line}
 use Rattle.slice_view.specs.Slices.{slice_picture}
 use Rattle.svo_top.specs.Picturing.{Views}
 use Rattle.svo_top.specs.Rays.{Casts, ReadsRays}
@@ -18,12 +18,12 @@ use Rattle.svo_top.specs.NodeFiles.{Tells, IsRefusedFor, Keeps, KeepsCells, refu
 use Rattle.svo_top.specs.declared.outcome.Status.{Status}
 use Rattle.svo_top.specs.declared.outcome.Status.TheVariants.{Done, Usage, Input, Range, Device, Refused, Memory}
 use Rattle.svo_top.specs.declared.outcome.RangeFault.{RangeFault}
-use Rattle.svo_top.specs.declared.outcome.RangeFault.TheVariants.{Decimals, Grid, Memory as TooMuch, LeastMemory, Triangle, Cube, Keep, Code, Made, Slice as BadSlice, View as BadView, Ray}
+use Rattle.svo_top.specs.declared.outcome.RangeFault.TheVariants.{Decimals, Grid, TooLarge, TooSmall, Triangle, Cube, Keep, Code, Made, Slice as BadSlice, View as BadView, Ray}
 use Rattle.svo_top.specs.declared.outcome.NodeRefusal.{NodeRefusal}
 use Rattle.svo_top.specs.declared.outcome.NodeRefusal.TheVariants.{Number}
 use Rattle.svo_top.specs.declared.outcome.Device.TheVariants.{Read, Scratch, Write, Nodes}
-use Rattle.svo_top.specs.declared.asking.Question.{Question}
-use Rattle.svo_top.specs.declared.asking.Question.TheVariants.{Check, Has, Cells, Lift, Cast, Slice, View}
+use Rattle.svo_top.specs.declared.file_question.Question.{Question}
+use Rattle.svo_top.specs.declared.file_question.Question.TheVariants.{Check, Has, Cells, Lift, Cast, Slice, View}
 
 -- ---- the work over a node file
 

@@ -3,7 +3,7 @@ use Rattle.std.specs.Prelude.{◌≡◌, ℕ, List, Option, None, Ok}
 use Rattle.dev_traits.specs.Change.{Change, ScratchChange, StoreChange, IsKept, IsScratchKept}
 use Rattle.svo_words.specs.declared.commands.Command.{Command}
 use Rattle.svo_words.specs.declared.commands.Command.TheVariants.{Build, Why, Check, Has, Cells, Lift, Cast, Slice, View, Make, Sum}
-use Rattle.svo_top.specs.Asking.{Asks}
+use Rattle.svo_top.specs.FileQuestion.{Asks}
 use Rattle.svo_top.specs.Build.{BuildRun, IsUntouched}
 use Rattle.slice_view.specs.Cameras.{CameraShape}
 use Rattle.svo_words.specs.declared.pictures.ViewWords.{ViewWords}
@@ -12,8 +12,8 @@ use Rattle.svo_top.specs.Make.{MakeRun}
 use Rattle.svo_top.specs.Sum.{SumRun}
 use Rattle.svo_top.specs.Ranges.{range_of_keep}
 use Rattle.svo_top.specs.Why.{WhyRun}
-use Rattle.svo_top.specs.declared.asking.Question.{Question}
-use Rattle.svo_top.specs.declared.asking.Question.TheVariants as question
+use Rattle.svo_top.specs.declared.file_question.Question.{Question}
+use Rattle.svo_top.specs.declared.file_question.Question.TheVariants as question
 use Rattle.svo_top.specs.declared.outcome.Status.{Status}
 use Rattle.svo_top.specs.declared.outcome.Status.TheVariants.{Done, Memory}
 use Rattle.svo_top.specs.declared.outcome.RangeFault.{RangeFault}

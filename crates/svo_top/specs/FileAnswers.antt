@@ -9,8 +9,8 @@ use Rattle.node_check.specs.Walks.{face_at}
 use Rattle.svo_top.specs.declared.outcome.RangeFault.{RangeFault}
 use Rattle.svo_top.specs.declared.outcome.RangeFault.TheVariants.{Code, Slice as BadSlice}
 use Rattle.svo_top.specs.Picturing.{is_layer}
-use Rattle.svo_top.specs.declared.asking.Question.{Question}
-use Rattle.svo_top.specs.declared.asking.Question.TheVariants.{Check, Has, Cells, Lift, Cast, Slice, View}
+use Rattle.svo_top.specs.declared.file_question.Question.{Question}
+use Rattle.svo_top.specs.declared.file_question.Question.TheVariants.{Check, Has, Cells, Lift, Cast, Slice, View}
 
 -- ---- what needs the file's grid
 

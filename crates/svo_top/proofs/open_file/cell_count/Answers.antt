@@ -1,7 +1,7 @@
 -- A power of 8 of at most 12 fits.
 use Rattle.std.proofs.Common.{◌^◌, ◌≤◌, arith, lit<}
 use Rattle.std.proofs.Math.Nat.{pow-le-pow_right}
-use Rattle.svo_top.proofs.answering.cell_count.Goals as goal
+use Rattle.svo_top.proofs.open_file.cell_count.Goals as goal
 
 pub pow-requires : goal.pow-requires
 pow-requires c =

@@ -3,9 +3,10 @@
 ghost use Rattle.std.specs.Prelude.{◌≡◌, ◌≢◌, ◌≤◌, ◌<◌, ◌&&◌, ◌^◌, ℤ, pos, int_le, nat_lt, unsigned_abs, List, None, IfSome};
 ghost use Rattle.dev_traits.specs.Change.{change_of};
 ghost use Rattle.octree_specs.specs.Cells.{Cell};
+ghost use Rattle.svo_base.specs.declared.grids.TheConstants.{MAX_DEPTH};
 ghost use Rattle.node_file.specs.FileView.{IsFileView};
-ghost use Rattle.svo_top.specs.Answering.{bar, is_code};
-ghost use Rattle.svo_top.specs.Asking.{Ends, Works, IsLate, NeedsGrid, Admits};
+ghost use Rattle.svo_top.specs.FileAnswers.{bar, is_code};
+ghost use Rattle.svo_top.specs.FileQuestion.{Ends, Works, IsLate, NeedsGrid, Admits};
 ghost use Rattle.svo_top.specs.Picturing.{is_layer};
 ghost use Rattle.svo_top.specs.Loaded.{status_of_answer};
 ghost use Rattle.svo_top.specs.NodeFiles.{KeepsCells};
@@ -13,9 +14,9 @@ ghost use Rattle.svo_top.specs.declared.outcome.Status.TheVariants.{Memory, Rang
 ghost use Rattle.svo_top.specs.declared.outcome.RangeFault.{RangeFault};
 ghost use Rattle.svo_top.specs.declared.outcome.NodeRefusal.{NodeRefusal};
 
-use crate::asking::Question;
 use crate::casting::status_of_rays;
 use crate::checking::tell_numbers;
+use crate::file_question::Question;
 use crate::lifting::put_lifted;
 use crate::membership::tell_membership;
 use crate::outcome::{Device, NodeRefusal, RangeFault, Status};
@@ -57,7 +58,7 @@ pub fn admit<R: Records, L: Ledger>(
 
 /// The first range that needs the grid of the file and that a number of the question is out of.
 fn bar(question: &Question, depth: u32) -> Option<RangeFault>
-    requires { depth ≤ 12 }
+    requires { depth ≤ MAX_DEPTH }
     ensures bar { result ≡ bar question.now depth }
     ensures late { IfSome result (λ fault. IsLate question.now fault × NeedsGrid fault) }
 {
@@ -83,7 +84,7 @@ fn bar(question: &Question, depth: u32) -> Option<RangeFault>
 
 /// Whether a number is the code of a cell of a grid of this depth.
 fn is_code(code: &i64, depth: u32) -> bool
-    requires { depth ≤ 12 }
+    requires { depth ≤ MAX_DEPTH }
     ensures { result ≡ is_code code.now depth }
 {
     *code >= 0 && code.unsigned_abs() < cell_count(depth)
@@ -98,7 +99,7 @@ fn magnitude(code: &i64) -> u64
 
 /// Whether a number is the place of a layer of a grid of this depth.
 fn is_layer(at: &i64, depth: u32) -> bool
-    requires { depth ≤ 12 }
+    requires { depth ≤ MAX_DEPTH }
     ensures { result ≡ is_layer at.now depth }
 {
     *at >= 0 && at.unsigned_abs() < layer_count(depth)
@@ -114,7 +115,7 @@ fn place(at: &i64) -> u32
 
 /// How many layers of cells a grid of this depth has.
 fn layer_count(depth: u32) -> u64
-    requires { depth ≤ 12 }
+    requires { depth ≤ MAX_DEPTH }
     ensures { result ≡ 2 ^ depth }
 {
     1 << depth
@@ -122,7 +123,7 @@ fn layer_count(depth: u32) -> u64
 
 /// How many cells a grid of this depth has.
 fn cell_count(depth: u32) -> u64
-    requires { depth ≤ 12 }
+    requires { depth ≤ MAX_DEPTH }
     ensures { result ≡ 8 ^ depth }
 {
     8u64.pow(depth)
@@ -137,7 +138,7 @@ pub fn answer<I: ByteSource, O: ByteSink, R: Records, L: Ledger>(
     reads: &mut Steps<L>,
 ) -> Status
     requires unbarred { bar question.now (R.file nodes.old).grid.depth ≡ None }
-    requires shallow { (R.file nodes.old).grid.depth ≤ 12 }
+    requires shallow { (R.file nodes.old).grid.depth ≤ MAX_DEPTH }
     ensures works { (cells : List Cell) → KeepsCells (R.file nodes.old) cells → Works question.now (R.file nodes.old).format (R.file nodes.old).grid cells
         (change_of I.rest I.faults input.old input.new)
         (change_of O.written O.faults out.old out.new)

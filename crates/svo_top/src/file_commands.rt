@@ -6,10 +6,10 @@ ghost use Rattle.dev_traits.specs.Change.{change_of};
 ghost use Rattle.svo_base.specs.GridLimits.{is_positive, is_within};
 ghost use Rattle.svo_top.specs.Causes.{DeviceCause};
 ghost use Rattle.svo_top.specs.Endings.{status_of};
-ghost use Rattle.svo_top.specs.Obeying.{ObeysQuestion, StopsQuestion};
+ghost use Rattle.svo_top.specs.CommandEndings.{CarriesOutQuestion, StopsQuestion};
 ghost use Rattle.svo_top.specs.Ranges.{range_of_keep};
 
-use crate::asking::{Keeping, Question, ask};
+use crate::file_question::{Keeping, Question, ask};
 use crate::outcome::{Device, RangeFault, Status};
 use crate::reporting::Ending;
 use dev_traits::{ByteSink, ByteSource, NodeStore};
@@ -24,7 +24,7 @@ const USUAL_KEEP: usize = 64;
 
 /// Asks a question about the file of a name, with so many of its blocks kept, unless that number is out
 /// of its range.
-pub fn obey_question<I: ByteSource, O: ByteSink, N: NodeStore>(
+pub fn carry_out_question<I: ByteSource, O: ByteSink, N: NodeStore>(
     keep: Result<Keeping, RangeFault>,
     name: &Text,
     question: &Question,
@@ -32,7 +32,7 @@ pub fn obey_question<I: ByteSource, O: ByteSink, N: NodeStore>(
     out: &mut O,
     nodes: &mut N,
 ) -> Ending
-    ensures obeys { ObeysQuestion question.now name.now (result_err keep)
+    ensures carries_out { CarriesOutQuestion question.now name.now (result_err keep)
         (change_of I.rest I.faults input.old input.new)
         (change_of O.written O.faults out.old out.new)
         (change_of N.files N.faults nodes.old nodes.new) result }

@@ -2,10 +2,10 @@
 
 ghost use Rattle.std.specs.Prelude.{◌≡◌, ◌<◌, ◌≤◌};
 ghost use Rattle.dev_traits.specs.Change.{change_of};
-ghost use Rattle.svo_top.specs.Asking.{Asks, keeps_blocks};
+ghost use Rattle.svo_top.specs.FileQuestion.{Asks, keeps_blocks};
 ghost use Rattle.svo_top.specs.Loaded.{status_of_load};
 
-use crate::answering::{admit, answer};
+use crate::open_file::{admit, answer};
 use crate::outcome::{Device, NodeRefusal, Status};
 use block_cache::{BlockCache, Blocks};
 use dev_traits::{ByteSink, ByteSource, NodeStore};

@@ -5,19 +5,19 @@ use Rattle.std.specs.Prelude.{is_some}
 use Rattle.dev_traits.specs.Change.{change_of}
 use Rattle.node_check.specs.Walks.{face_at}
 use Rattle.node_check.specs.Stops.{Puts}
-use Rattle.svo_top.specs.Answering.{bar, has_line}
+use Rattle.svo_top.specs.FileAnswers.{bar, has_line}
 use Rattle.octree_specs.specs.OctreeFile.{image_of}
 use Rattle.cell_lists.specs.Lists.{cells_text}
 use Rattle.svo_top.specs.Rays.{Casts}
-use Rattle.svo_top.specs.Asking.{Works, Answers, Ends}
+use Rattle.svo_top.specs.FileQuestion.{Works, Answers, Ends}
 use Rattle.svo_top.specs.Loaded.{status_of_answer}
-use Rattle.svo_top.specs.declared.asking.Question.{Question}
-use Rattle.svo_top.specs.declared.asking.Question.TheVariants as question
+use Rattle.svo_top.specs.declared.file_question.Question.{Question}
+use Rattle.svo_top.specs.declared.file_question.Question.TheVariants as question
 use Rattle.svo_top.specs.declared.outcome.Status.{Status}
 use Rattle.slice_view.specs.Slices.{slice_picture}
 use Rattle.svo_top.specs.Picturing.{Views}
-use Rattle.svo_top.proofs.Asked.{layer_below, views_of, sure_of_view, answers_of, sure_of, kept_told, casts_of, sure_rays, rays_end, unbarred_rays}
-use Rattle.svo_top.proofs.answering.answer.Goals as goal
+use Rattle.svo_top.proofs.OpenFileAnswers.{layer_below, views_of, sure_of_view, answers_of, sure_of, kept_told, casts_of, sure_rays, rays_end, unbarred_rays}
+use Rattle.svo_top.proofs.open_file.answer.Goals as goal
 
 pub returns-in-Check-clause-works : goal.returns-in-Check-clause-works
 returns-in-Check-clause-works g c = λ cells keeps.

@@ -9,15 +9,15 @@ use Rattle.node_file.specs.Stored.{words_in}
 use Rattle.node_file.specs.Viewing.{bytes_of, file_of}
 use Rattle.node_file.proofs.Frames.{file_view}
 use Rattle.node_file.proofs.Loads.{is_loaded}
-use Rattle.svo_top.specs.Answering.{bar}
-use Rattle.svo_top.specs.Asking.{Asks, AsksFile}
+use Rattle.svo_top.specs.FileAnswers.{bar}
+use Rattle.svo_top.specs.FileQuestion.{Asks, AsksFile}
 use Rattle.svo_top.specs.Loaded.{status_of_load}
 use Rattle.svo_top.specs.declared.outcome.Status.{Status}
 use Rattle.svo_top.specs.declared.outcome.Status.TheVariants.{Memory}
 use Rattle.svo_top.specs.NodeFiles.{refused_of}
-use Rattle.svo_top.proofs.Asked.{not_admitted, admitted, works_memory}
-use Rattle.svo_top.proofs.Named.{not_loaded, load_ends, stop_ends, memory_ends, ends_later, asked}
-use Rattle.svo_top.proofs.asking.ask_counted.Goals as goal
+use Rattle.svo_top.proofs.OpenFileAnswers.{not_admitted, admitted, works_memory}
+use Rattle.svo_top.proofs.NamedFileAnswers.{not_loaded, load_ends, stop_ends, memory_ends, ends_later, asked}
+use Rattle.svo_top.proofs.file_question.ask_counted.Goals as goal
 
 pub returns-in-Err : goal.returns-in-Err
 returns-in-Err g c =

@@ -4,7 +4,7 @@ ghost use Rattle.std.specs.Prelude.{◌≡◌, ◌+◌, ◌≤◌, ◌^◌, true
 ghost use Rattle.std.specs.List.{list_all};
 ghost use Rattle.svo_base.specs.GridLimits.{is_within};
 ghost use Rattle.octree_specs.specs.Meeting.{HasPlanes};
-ghost use Rattle.svo_top.specs.Questions.{at, cube_from, is_cube, point_at, triangle_from};
+ghost use Rattle.svo_top.specs.WhyQuestion.{at, cube_from, is_cube, point_at, triangle_from};
 
 use svo_base::{Cube, Point, Triangle};
 
@@ -15,7 +15,7 @@ const COORDINATE_LIMIT: u64 = 1 << 30;
 const CUBE_LIMIT: u64 = 1 << 32;
 
 /// The triangle with these corners, if none of the coordinates has a size above 2^30.
-#[tactic(auto, unfolding(crate::specs::Questions::triangle_from))]
+#[tactic(auto, unfolding(crate::specs::WhyQuestion::triangle_from))]
 pub fn triangle_of(numbers: &[i64; 9]) -> Option<Triangle>
     ensures { result ≡ triangle_from numbers.now }
 {
@@ -31,7 +31,7 @@ pub fn triangle_of(numbers: &[i64; 9]) -> Option<Triangle>
 
 /// The closed cube of a lower corner and a side, if no coordinate has a size above 2^32 and the side is
 /// from 1 to 2^32.
-#[tactic(auto, unfolding(crate::specs::Questions::cube_from))]
+#[tactic(auto, unfolding(crate::specs::WhyQuestion::cube_from))]
 pub fn cube_of(numbers: &[i64; 4]) -> Option<Cube>
     ensures cube { result ≡ cube_from numbers.now }
     ensures planes { IfSome result HasPlanes }

@@ -4,7 +4,7 @@ use Rattle.std.specs.Result.{result_err}
 use Rattle.dev_traits.specs.Change.{Change, ScratchChange, StoreChange, IsFaulted, IsKept, IsScratchKept}
 use Rattle.svo_words.specs.declared.commands.Command.{Command}
 use Rattle.svo_words.specs.declared.commands.Command.TheVariants.{Build, Why, Check, Has, Cells, Lift, Cast, Slice, View, Make, Sum}
-use Rattle.svo_top.specs.Asking.{Asks, IsLate, CastsRays}
+use Rattle.svo_top.specs.FileQuestion.{Asks, IsLate, CastsRays}
 use Rattle.svo_top.specs.Build.{BuildMeans, IsUntouched}
 use Rattle.svo_top.specs.Commands.{NamesNodes, ReadsInput, MayBeLate}
 use Rattle.svo_top.specs.Endings.{status_of, EndsBuild, EndsWhy, EndsQuietly}
@@ -15,8 +15,8 @@ use Rattle.svo_top.specs.Make.{MakeMeans}
 use Rattle.svo_top.specs.Sum.{EndsSum, SumMeans}
 use Rattle.svo_top.specs.Ranges.{RangeIs, range_of, range_of_keep}
 use Rattle.svo_top.specs.Why.{WhyMeans}
-use Rattle.svo_top.specs.declared.asking.Question.{Question}
-use Rattle.svo_top.specs.declared.asking.Question.TheVariants as question
+use Rattle.svo_top.specs.declared.file_question.Question.{Question}
+use Rattle.svo_top.specs.declared.file_question.Question.TheVariants as question
 use Rattle.svo_top.specs.declared.reporting.Ending.{Ending}
 use Rattle.svo_top.specs.declared.outcome.Status.{Status}
 use Rattle.svo_top.specs.declared.outcome.Status.TheVariants.{Usage, Input, Range, Refused, Memory}
@@ -26,28 +26,28 @@ use Rattle.svo_top.specs.declared.outcome.RangeFault.{RangeFault}
 use Rattle.svo_top.specs.declared.outcome.NodeRefusal.{NodeRefusal}
 
 -- a question about the file of a name, unless a number is out of a range that needs no file
-pub record ObeysQuestion (question : Question) (name : List ℕ) (range : Option RangeFault) (input out : Change) (nodes : StoreChange) (ending : Ending) : Type 0 where
+pub record CarriesOutQuestion (question : Question) (name : List ℕ) (range : Option RangeFault) (input out : Change) (nodes : StoreChange) (ending : Ending) : Type 0 where
   pub quiet : EndsQuietly ending
   pub asks : range ≡ None → Asks question name input out nodes (status_of ending)
 
 -- the same of a view, whose camera is within its limits
-pub record ObeysView (words : ViewWords) (input out : Change) (nodes : StoreChange) (ending : Ending) : Type 0 where
+pub record CarriesOutView (words : ViewWords) (input out : Change) (nodes : StoreChange) (ending : Ending) : Type 0 where
   pub quiet : EndsQuietly ending
   pub asks : (camera : CameraShape) → camera_of (range_of_keep words.keep) words ≡ Ok camera → Asks (question.View camera) words.nodes input out nodes (status_of ending)
 
 -- what each command means
-abbrev pub Obeys : Command → Change → Change → ScratchChange → StoreChange → Ending → Type 0
-Obeys (Build words) input out scratch nodes ending = EndsBuild words input out scratch ending × BuildMeans words input out scratch (status_of ending) × IsKept nodes
-Obeys (Why words) input out scratch nodes ending = EndsWhy ending × WhyMeans words out (status_of ending) × IsKept input × IsScratchKept scratch × IsKept nodes
-Obeys (Check words) input out scratch nodes ending = ObeysQuestion question.Check words.nodes None input out nodes ending × IsScratchKept scratch
-Obeys (Has words) input out scratch nodes ending = ObeysQuestion (question.Has words.code) words.nodes None input out nodes ending × IsScratchKept scratch
-Obeys (Cells words) input out scratch nodes ending = ObeysQuestion question.Cells words.nodes (range_of_keep words.keep) input out nodes ending × IsScratchKept scratch
-Obeys (Lift words) input out scratch nodes ending = ObeysQuestion question.Lift words.nodes None input out nodes ending × IsScratchKept scratch
-Obeys (Cast words) input out scratch nodes ending = ObeysQuestion question.Cast words.nodes (range_of_keep words.keep) input out nodes ending × IsScratchKept scratch
-Obeys (Slice words) input out scratch nodes ending = ObeysQuestion (question.Slice (axis_from words.axis) words.at) words.nodes (range_of_keep words.keep) input out nodes ending × IsScratchKept scratch
-Obeys (View words) input out scratch nodes ending = ObeysView words input out nodes ending × IsScratchKept scratch
-Obeys (Make words) input out scratch nodes ending = EndsWhy ending × MakeMeans words out (status_of ending) × IsKept input × IsScratchKept scratch × IsKept nodes
-Obeys (Sum words) input out scratch nodes ending = EndsSum ending × SumMeans words out scratch (status_of ending) × IsKept input × IsKept nodes
+abbrev pub CarriesOut : Command → Change → Change → ScratchChange → StoreChange → Ending → Type 0
+CarriesOut (Build words) input out scratch nodes ending = EndsBuild words input out scratch ending × BuildMeans words input out scratch (status_of ending) × IsKept nodes
+CarriesOut (Why words) input out scratch nodes ending = EndsWhy ending × WhyMeans words out (status_of ending) × IsKept input × IsScratchKept scratch × IsKept nodes
+CarriesOut (Check words) input out scratch nodes ending = CarriesOutQuestion question.Check words.nodes None input out nodes ending × IsScratchKept scratch
+CarriesOut (Has words) input out scratch nodes ending = CarriesOutQuestion (question.Has words.code) words.nodes None input out nodes ending × IsScratchKept scratch
+CarriesOut (Cells words) input out scratch nodes ending = CarriesOutQuestion question.Cells words.nodes (range_of_keep words.keep) input out nodes ending × IsScratchKept scratch
+CarriesOut (Lift words) input out scratch nodes ending = CarriesOutQuestion question.Lift words.nodes None input out nodes ending × IsScratchKept scratch
+CarriesOut (Cast words) input out scratch nodes ending = CarriesOutQuestion question.Cast words.nodes (range_of_keep words.keep) input out nodes ending × IsScratchKept scratch
+CarriesOut (Slice words) input out scratch nodes ending = CarriesOutQuestion (question.Slice (axis_from words.axis) words.at) words.nodes (range_of_keep words.keep) input out nodes ending × IsScratchKept scratch
+CarriesOut (View words) input out scratch nodes ending = CarriesOutView words input out nodes ending × IsScratchKept scratch
+CarriesOut (Make words) input out scratch nodes ending = EndsWhy ending × MakeMeans words out (status_of ending) × IsKept input × IsScratchKept scratch × IsKept nodes
+CarriesOut (Sum words) input out scratch nodes ending = EndsSum ending × SumMeans words out scratch (status_of ending) × IsKept input × IsKept nodes
 
 -- what is the same for all: the range that a number is out of is named, and then nothing is touched; nothing is read, put out or kept where memory runs out; and which commands may end so
 pub record Stops (command : Command) (input out : Change) (scratch : ScratchChange) (nodes : StoreChange) (status : Status) : Type 0 where

@@ -1,6 +1,6 @@
 use Rattle.std.proofs.Common.{ℤ, ◌^◌, ◌≤◌, unsigned_abs, of_z, to_z, w64, subst, sym, arith}
 use Rattle.morton_code.proofs.Sides.{all_of_three, plane_kept}
-use Rattle.svo_top.proofs.questions.cube_of.Goals as goal
+use Rattle.svo_top.proofs.why_question.cube_of.Goals as goal
 
 -- a plane that is at most so far away, as it is stored
 near : (plane : ℤ) → unsigned_abs plane ≤ 2 ^ 33 → unsigned_abs (to_z w64 (of_z w64 plane)) ≤ 2 ^ 33
