@@ -1,6 +1,6 @@
 //! The nodes that wait to be read, the nearest first.
 
-ghost use Rattle.std.specs.Prelude.{◌≡◌, ◌≤◌, [], ◌∷◌, All, IfOk, IfSome, IfNone, OnOk};
+ghost use Rattle.std.specs.Prelude.{◌≡◌, ◌≤◌, [], ◌∷◌, All, IfSome, IfNone, OnOk};
 ghost use Rattle.std.specs.List.Sorted.{IsPermutation};
 
 use std::alloc::{AllocError, Global};
@@ -39,12 +39,12 @@ impl Model for Queue {
 }
 
 impl Queue {
-    /// An empty queue with room for so many nodes, if there is memory.
-    pub fn with_room(alloc: Global, nodes: usize) -> Result<Queue, AllocError>
-        ensures { IfOk result (λ queue. queue ≡ []) }
+    /// An empty queue. It takes memory with the first node.
+    pub fn new(alloc: Global) -> Queue
+        ensures { result ≡ [] }
     {
-        let heap = BinaryHeap::with_capacity(alloc, nodes)?;
-        Ok(Queue { heap })
+        let heap = BinaryHeap::new(alloc);
+        Queue { heap }
     }
 
     /// Lets all nodes go, and keeps the room.

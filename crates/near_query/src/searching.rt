@@ -15,12 +15,9 @@ use crate::steps::is_nearer;
 use crate::walking::visit;
 use node_file::Records;
 use ray_walk::read_word;
-use std::alloc::{AllocError, Global};
+use std::alloc::Global;
 use std::sync::ledger::Ledger;
 use svo_base::Steps;
-
-/// For how many nodes there is room at first. The heap grows where more wait.
-const FIRST_ROOM: usize = 64;
 
 /// What searches keep from one point to the next, so that they share the memory for nodes that wait.
 #[derive(Drop)]
@@ -29,13 +26,10 @@ pub struct Search {
 }
 
 impl Search {
-    /// Memory for searches.
-    ///
-    /// # Errors
-    /// `AllocError`: it was refused.
-    pub fn new(alloc: Global) -> Result<Search, AllocError> {
-        let waiting = Queue::with_room(alloc, FIRST_ROOM)?;
-        Ok(Search { waiting })
+    /// Searches that took no memory yet.
+    pub fn new(alloc: Global) -> Search {
+        let waiting = Queue::new(alloc);
+        Search { waiting }
     }
 
     /// The same as [`near`], in the memory that earlier searches took.
@@ -107,6 +101,6 @@ pub fn near<R: Records, L: Ledger>(
     ensures same { R.file nodes.new ≡ R.file nodes.old }
     ensures lender { R.lender nodes.new ≡ R.lender nodes.old }
 {
-    let mut search = Search::new(alloc)?;
+    let mut search = Search::new(alloc);
     search.near(nodes, point, reads)
 }

@@ -112,7 +112,7 @@ const ROWS: &[Row] = &[
 #[test]
 fn points_have_the_nearest_of_eight_cells(rt: HostRuntime) {
     let grid = Grid::new(2, [0, 0, 0], 1).expect(&rt, "a grid");
-    let mut search = Search::new(rt.alloc()).expect(&rt, "memory");
+    let mut search = Search::new(rt.alloc());
     let octree = Octree {
         grid,
         words: &EIGHT_CELLS,
@@ -180,7 +180,7 @@ const CASES: &[Case] = &[
 
 #[test]
 fn searches_answer_in_either_format_or_say_why_not(rt: HostRuntime) {
-    let mut search = Search::new(rt.alloc()).expect(&rt, "memory");
+    let mut search = Search::new(rt.alloc());
     for (words, depth, point, refused, cell, fault) in CASES.iter().copied() {
         let grid = Grid::new(depth, [0, 0, 0], 1).expect(&rt, "a grid");
         assert!(rt; !words.is_empty() && is_in_reach(&point), "a case");
@@ -285,7 +285,7 @@ fn small(seed: &mut u64) -> i64
 #[test]
 fn searches_find_what_the_plain_program_does(rt: HostRuntime) {
     let mut seed = 1;
-    let mut search = Search::new(rt.alloc()).expect(&rt, "memory");
+    let mut search = Search::new(rt.alloc());
     for depth in 1..4u32 {
         for one_in in [1, 2, 5, 9, 40, 600] {
             let grid = Grid::new(i64::from(depth), [-2, 0, 1], 2).expect(&rt, "a grid");

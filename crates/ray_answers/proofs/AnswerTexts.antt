@@ -7,19 +7,18 @@ use Rattle.svo_base.specs.GridShape.{GridShape}
 use Rattle.octree_specs.specs.Cells.{Cell}
 use Rattle.node_check.specs.Stops.{PutsFront}
 use Rattle.node_file.proofs.Fronts.{append_twice, front_onward, front_of_longer}
-use Rattle.ray_fraction.specs.RayShape.{RayShape}
-use Rattle.ray_answers.specs.AnswerLines.{IsAnswer, AreAnswers, answer_line}
+use Rattle.ray_answers.specs.declared.queries.Query.{Query}
+use Rattle.ray_answers.specs.AnswerLines.{IsAnswer, AreAnswers}
 use Rattle.ray_answers.specs.Runs.{AreGiven, AreCut}
-use Rattle.ray_answers.specs.declared.answers.FacedHit.{FacedHit}
 
 -- one answer more
-pub answers_more : (grid : GridShape) (cells : List Cell) (rays : List RayShape) (ray : RayShape) (text : List ℕ) (answer : Option FacedHit)
-    → AreAnswers grid cells rays text → IsAnswer grid cells ray answer → AreAnswers grid cells (rays ++ ray ∷ []) (text ++ answer_line answer)
-answers_more grid cells [] ray text answer none is =
-    (answer, [], is, refl, ap (λ t. t ++ answer_line answer) none ∙ sym (append-nil (answer_line answer)))
-answers_more grid cells (first ∷ rays) ray text answer are is =
+pub answers_more : (grid : GridShape) (cells : List Cell) (queries : List Query) (query : Query) (text line : List ℕ)
+    → AreAnswers grid cells queries text → IsAnswer grid cells query line → AreAnswers grid cells (queries ++ query ∷ []) (text ++ line)
+answers_more grid cells [] query text line none is =
+    (line, [], is, refl, ap (λ t. t ++ line) none ∙ sym (append-nil line))
+answers_more grid cells (first ∷ queries) query text line are is =
     let later : List ℕ = are.1 in
-    (are.0, later ++ answer_line answer, are.2, answers_more grid cells rays ray later answer are.3 is, ap (λ t. t ++ answer_line answer) are.4 ∙ append_assoc (answer_line are.0) later (answer_line answer))
+    (are.0, later ++ line, are.2, answers_more grid cells queries query later line are.3 is, ap (λ t. t ++ line) are.4 ∙ append_assoc are.0 later line)
 
 -- a front of what waited was put
 pub still_front : (start written after : Option (List ℕ)) (answers waiting : List ℕ) → PutsFront start written answers → append_known written waiting ≡ append_known start answers
@@ -27,22 +26,22 @@ pub still_front : (start written after : Option (List ℕ)) (answers waiting : L
 still_front start written after answers waiting front given more = front_onward start written after answers waiting front given more
 
 -- an answer was added to what was given
-pub given_more : (grid : GridShape) (cells : List Cell) (rays : List RayShape) (ray : RayShape) (answer : Option FacedHit) (start written after : Option (List ℕ)) (waiting left : List ℕ)
-    → AreGiven grid cells rays start written waiting → IsAnswer grid cells ray answer
-    → append_known after left ≡ append_known (append_known written waiting) (answer_line answer) → PutsFront written after waiting
-    → AreGiven grid cells (rays ++ ray ∷ []) start after left
-given_more grid cells rays ray answer start written after waiting left are is added more = record {
-  answers = are.answers ++ answer_line answer;
-  are = answers_more grid cells rays ray are.answers answer are.are is;
-  given = added ∙ ap (λ o. append_known o (answer_line answer)) are.given ∙ append_twice start are.answers (answer_line answer);
-  front = front_of_longer start after are.answers (answer_line answer) (still_front start written after are.answers waiting are.front are.given more);
+pub given_more : (grid : GridShape) (cells : List Cell) (queries : List Query) (query : Query) (line : List ℕ) (start written after : Option (List ℕ)) (waiting left : List ℕ)
+    → AreGiven grid cells queries start written waiting → IsAnswer grid cells query line
+    → append_known after left ≡ append_known (append_known written waiting) line → PutsFront written after waiting
+    → AreGiven grid cells (queries ++ query ∷ []) start after left
+given_more grid cells queries query line start written after waiting left are is added more = record {
+  answers = are.answers ++ line;
+  are = answers_more grid cells queries query are.answers line are.are is;
+  given = added ∙ ap (λ o. append_known o line) are.given ∙ append_twice start are.answers line;
+  front = front_of_longer start after are.answers line (still_front start written after are.answers waiting are.front are.given more);
 }
 
 -- what was given stayed as it was
-pub given_still : (grid : GridShape) (cells : List Cell) (rays : List RayShape) (start written after : Option (List ℕ)) (waiting left : List ℕ)
-    → AreGiven grid cells rays start written waiting → append_known after left ≡ append_known written waiting → PutsFront written after waiting
-    → AreGiven grid cells rays start after left
-given_still grid cells rays start written after waiting left are same more = record {
+pub given_still : (grid : GridShape) (cells : List Cell) (queries : List Query) (start written after : Option (List ℕ)) (waiting left : List ℕ)
+    → AreGiven grid cells queries start written waiting → append_known after left ≡ append_known written waiting → PutsFront written after waiting
+    → AreGiven grid cells queries start after left
+given_still grid cells queries start written after waiting left are same more = record {
   answers = are.answers;
   are = are.are;
   given = same ∙ are.given;
@@ -50,9 +49,9 @@ given_still grid cells rays start written after waiting left are same more = rec
 }
 
 -- the output failed
-pub given_cut : (grid : GridShape) (cells : List Cell) (rays : List RayShape) (start written after : Option (List ℕ)) (waiting : List ℕ)
-    → AreGiven grid cells rays start written waiting → PutsFront written after waiting → AreCut grid cells rays start after
-given_cut grid cells rays start written after waiting are more = record {
+pub given_cut : (grid : GridShape) (cells : List Cell) (queries : List Query) (start written after : Option (List ℕ)) (waiting : List ℕ)
+    → AreGiven grid cells queries start written waiting → PutsFront written after waiting → AreCut grid cells queries start after
+given_cut grid cells queries start written after waiting are more = record {
   answers = are.answers;
   are = are.are;
   front = still_front start written after are.answers waiting are.front are.given more;

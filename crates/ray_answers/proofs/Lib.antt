@@ -4,4 +4,5 @@ mod Faces
 mod LineRuns
 mod OneAnswer
 mod Overs
+mod QueryStops
 mod Taking

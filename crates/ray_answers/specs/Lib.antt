@@ -1,8 +1,8 @@
 pub mod AnswerLines
-pub mod Casting
+pub mod Answering
 pub mod Laws
 pub mod LineCalls
+pub mod LineMeanings
 pub mod LineWords
-pub mod RayLines
-pub mod RayTexts
+pub mod QueryTexts
 pub mod Runs

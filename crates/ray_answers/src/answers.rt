@@ -1,109 +1,47 @@
-//! The answers to rays.
+//! The answers to rays and points, as lines.
 
-ghost use Rattle.std.specs.Prelude.{◌≡◌, ◌≤◌, ◌<◌, ◌+◌, ◌++◌, ◌^◌, ℕ, List, length, decimal, IfOk};
-ghost use Rattle.arrayvec.specs.ArrayString.{array_string_len};
+ghost use Rattle.std.specs.Prelude.{◌≡◌, List, IfErr};
 ghost use Rattle.octree_specs.specs.Cells.{Cell};
+ghost use Rattle.near_query.specs.declared.cells.NearFault.{NearFault};
 ghost use Rattle.node_check.specs.Counts.{HasCauseOf};
-ghost use Rattle.node_check.specs.declared.walking.WalkFault.TheVariants.{Failed};
+ghost use Rattle.node_check.specs.declared.walking.WalkFault.{WalkFault};
 ghost use Rattle.ray_walk.specs.Answers.{TellsCells};
-ghost use Rattle.ray_answers.specs.AnswerLines.{IsAnswer, answer_line};
-ghost use Rattle.ray_answers.specs.Runs.{FindsAnswer, HasFace, RefusesWalk};
+ghost use Rattle.ray_answers.specs.LineCalls.{IsOfKind};
+ghost use Rattle.ray_answers.specs.Runs.{FindsLine, RefusesNear};
+ghost use Rattle.ray_answers.specs.declared.queries.QueryKind.{QueryKind};
+ghost use Rattle.ray_answers.specs.declared.queries.QueryKind.TheVariants.{Points};
 
-use arrayvec::ArrayString;
-use itoa::Buffer;
-use node_check::{WalkFault, face_of};
+use crate::answer_line::AnswerLine;
+use crate::hits::{hit_line, hit_of};
+use crate::neighbours::{near_line, neighbour_of};
+use crate::queries::Query;
+use near_query::{NearFault, Search};
 use node_file::Records;
-use ray_fraction::Ray;
-use ray_walk::{Hit, cast};
 use std::sync::ledger::Ledger;
 use svo_base::Steps;
 
-/// The line of an answer; the longest has 88 bytes.
-pub type AnswerLine = ArrayString<128>;
-
-/// The first filled cell that a ray hits: at the time n / m, with its Morton code and its face.
-#[derive(Clone, Copy, Debug, PartialEq, Eq)]
-pub struct FacedHit {
-    pub n: u64,
-    pub m: u64,
-    pub code: u64,
-    pub face: u32,
-}
-
-/// The answer to a ray. A cell that is hit has a face in every node file; on other words, where it may
-/// have none, it is no hit.
+/// The line of the answer to a query.
 pub fn answer_of<R: Records, L: Ledger>(
     nodes: &mut R,
-    ray: &Ray,
+    query: &Query,
+    search: &mut Search,
     reads: &mut Steps<L>,
-) -> Result<Option<FacedHit>, WalkFault>
-    ensures found { (cells : List Cell) → TellsCells (R.file nodes.old) cells → FindsAnswer (R.file nodes.old).grid cells ray.now result }
-    ensures refused { RefusesWalk (R.file nodes.old).words (R.file nodes.old).totals.records (R.file nodes.old).grid.depth result }
-    ensures cause { HasCauseOf (R.faults nodes.old) (R.faults nodes.new) result Failed }
+) -> Result<AnswerLine, NearFault>
+    ensures found { (cells : List Cell) → TellsCells (R.file nodes.old) cells → FindsLine (R.file nodes.old).grid cells query.now result }
+    ensures refused { RefusesNear (R.file nodes.old).words (R.file nodes.old).totals.records (R.file nodes.old).grid.depth result }
+    ensures memory { (kind : QueryKind) → IsOfKind kind query.now → IfErr result (λ fault. fault ≡ NearFault.Memory → kind ≡ Points) }
+    ensures cause { HasCauseOf (R.faults nodes.old) (R.faults nodes.new) result (NearFault.Walk WalkFault.Failed) }
     ensures same { R.file nodes.new ≡ R.file nodes.old }
     ensures lender { R.lender nodes.new ≡ R.lender nodes.old }
 {
-    match cast(nodes, ray, reads) {
-        Err(fault) => Err(fault),
-        Ok(None) => Ok(None),
-        Ok(Some(hit)) => faced(nodes, &hit, reads),
+    match query {
+        Query::Ray(ray) => match hit_of(nodes, ray, reads) {
+            Err(fault) => Err(NearFault::Walk(fault)),
+            Ok(answer) => Ok(hit_line(&answer)),
+        },
+        Query::Point(point) => match neighbour_of(nodes, point, search, reads) {
+            Err(fault) => Err(fault),
+            Ok(answer) => Ok(near_line(&answer)),
+        },
     }
-}
-
-/// The hit with the face of its cell.
-fn faced<R: Records, L: Ledger>(
-    nodes: &mut R,
-    hit: &Hit,
-    reads: &mut Steps<L>,
-) -> Result<Option<FacedHit>, WalkFault>
-    requires { hit.now.code < 8 ^ (R.file nodes.old).grid.depth }
-    ensures face { (cells : List Cell) → TellsCells (R.file nodes.old) cells → HasFace cells hit.now result }
-    ensures refused { RefusesWalk (R.file nodes.old).words (R.file nodes.old).totals.records (R.file nodes.old).grid.depth result }
-    ensures cause { HasCauseOf (R.faults nodes.old) (R.faults nodes.new) result Failed }
-    ensures same { R.file nodes.new ≡ R.file nodes.old }
-    ensures lender { R.lender nodes.new ≡ R.lender nodes.old }
-{
-    match face_of(nodes, hit.code, reads) {
-        Err(fault) => Err(fault),
-        Ok(None) => Ok(None),
-        Ok(Some(face)) => Ok(Some(FacedHit {
-            n: hit.time.n,
-            m: hit.time.m,
-            code: hit.code,
-            face,
-        })),
-    }
-}
-
-/// The line of an answer.
-#[tactic(auto, unfolding(crate::specs::AnswerLines::answer_line))]
-pub fn answer_line(answer: &Option<FacedHit>) -> AnswerLine
-    ensures { result.bytes ≡ answer_line answer.now }
-{
-    let mut line = AnswerLine::new();
-    match answer {
-        None => line.push_str("none\n"),
-        Some(hit) => {
-            line.push_str("hit ");
-            push_number(&mut line, hit.n);
-            line.push_str("/");
-            push_number(&mut line, hit.m);
-            line.push_str(" cell ");
-            push_number(&mut line, hit.code);
-            line.push_str(" face ");
-            push_number(&mut line, u64::from(hit.face));
-            line.push_str("\n");
-        }
-    }
-    line
-}
-
-/// Adds a number in digits.
-fn push_number(line: &mut AnswerLine, number: u64)
-    requires { array_string_len line.old + 20 ≤ 128 }
-    ensures text { line.new.bytes ≡ line.old.bytes ++ decimal number }
-    ensures length { array_string_len line.new ≤ array_string_len line.old + 20 }
-{
-    let mut buffer = Buffer::new();
-    line.push_str(buffer.format(number));
 }

@@ -10,6 +10,7 @@ use Rattle.svo_words.specs.declared.nodes.HasWords.{HasWords}
 use Rattle.svo_words.specs.declared.nodes.CellsWords.{CellsWords}
 use Rattle.svo_words.specs.declared.nodes.LiftWords.{LiftWords}
 use Rattle.svo_words.specs.declared.nodes.CastWords.{CastWords}
+use Rattle.svo_words.specs.declared.nodes.NearWords.{NearWords}
 
 -- of `check` and `lift`
 unfoldable pub nodes_choices : List Choice
@@ -19,7 +20,7 @@ nodes_choices = required (codes "nodes") ∷ []
 unfoldable pub has_choices : List Choice
 has_choices = required (codes "nodes") ∷ required (codes "code") ∷ []
 
--- of `cells` and `cast`
+-- of `cells`, `cast` and `near`
 unfoldable pub kept_choices : List Choice
 kept_choices = required (codes "nodes") ∷ optional (codes "keep") ∷ []
 
@@ -47,6 +48,12 @@ lift_from values = do
 
 unfoldable pub cast_from : Lookup → Option CastWords
 cast_from values = do
+  keep ← number_or (pos 64) values (codes "keep")
+  nodes ← text_in values (codes "nodes")
+  Some (record { nodes = nodes; keep = keep })
+
+unfoldable pub near_from : Lookup → Option NearWords
+near_from values = do
   keep ← number_or (pos 64) values (codes "keep")
   nodes ← text_in values (codes "nodes")
   Some (record { nodes = nodes; keep = keep })

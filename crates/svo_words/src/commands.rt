@@ -4,7 +4,7 @@ ghost use Rattle.std.specs.Prelude.{map};
 ghost use Rattle.std.specs.String.{string_bytes};
 ghost use Rattle.svo_words.specs.Build.{build_choices};
 ghost use Rattle.svo_words.specs.Steps.{settings_in};
-ghost use Rattle.svo_words.specs.Forms.{form_of, build_form, cast_form, check_form, cells_form, has_form, why_form, slice_form, view_form, lift_form, make_form, sum_form, read_as};
+ghost use Rattle.svo_words.specs.Forms.{form_of, build_form, cast_form, check_form, cells_form, has_form, why_form, slice_form, view_form, lift_form, make_form, sum_form, near_form, read_as};
 ghost use Rattle.svo_words.specs.Made.{make_choices, sum_choices};
 ghost use Rattle.svo_words.specs.Nodes.{nodes_choices, has_choices, kept_choices};
 ghost use Rattle.svo_words.specs.Pictures.{slice_choices, view_choices};
@@ -17,8 +17,8 @@ use crate::form_test::is_in_form;
 use crate::made::{MakeWords, SumWords, make_choices, make_from, sum_choices, sum_from};
 use crate::matching::matches_of;
 use crate::nodes::{
-    CastWords, CellsWords, CheckWords, HasWords, LiftWords, cast_from, cells_from, check_from,
-    has_choices, has_from, kept_choices, lift_from, nodes_choices,
+    CastWords, CellsWords, CheckWords, HasWords, LiftWords, NearWords, cast_from, cells_from,
+    check_from, has_choices, has_from, kept_choices, lift_from, near_from, nodes_choices,
 };
 use crate::pictures::{SliceWords, ViewWords, slice_choices, slice_from, view_choices, view_from};
 use crate::values::Values;
@@ -41,6 +41,7 @@ pub enum Command {
     Lift(LiftWords),
     Make(MakeWords),
     Sum(SumWords),
+    Near(NearWords),
 }
 
 /// Why words are no command.
@@ -80,6 +81,7 @@ pub fn read_words(alloc: Global, words: &Words) -> Result<Command, WordFault>
         "lift" => read_lift(alloc, words.tail(1)),
         "make" => read_make(alloc, words.tail(1)),
         "sum" => read_sum(alloc, words.tail(1)),
+        "near" => read_near(alloc, words.tail(1)),
         _ => Err(WordFault::Command),
     }
 }
@@ -213,6 +215,18 @@ fn read_sum(alloc: Global, words: &[String]) -> Result<Command, WordFault>
     match sum_from(alloc, &values) {
         Err(fault) => Err(fault),
         Ok(sum) => Ok(Command::Sum(sum)),
+    }
+}
+
+/// The command `near` of the words after its name.
+fn read_near(alloc: Global, words: &[String]) -> Result<Command, WordFault>
+    ensures { IsRead (read_as near_form (settings_in kept_choices (map string_bytes words.now))) result }
+{
+    let choices = kept_choices();
+    let values = read_values(alloc, &choices, words)?;
+    match near_from(alloc, &values) {
+        Err(fault) => Err(fault),
+        Ok(near) => Ok(Command::Near(near)),
     }
 }
 

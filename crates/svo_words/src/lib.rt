@@ -20,6 +20,6 @@ pub use commands::{Command, WordFault, read_words};
 pub use kinds::{AxisWord, KindWord, Text};
 pub use laws::{one_grid, one_meaning, one_spelling};
 pub use made::{MakeWords, SumWords};
-pub use nodes::{CastWords, CellsWords, CheckWords, HasWords, LiftWords};
+pub use nodes::{CastWords, CellsWords, CheckWords, HasWords, LiftWords, NearWords};
 pub use pictures::{SliceWords, ViewWords};
 pub use why::WhyWords;

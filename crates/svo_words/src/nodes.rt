@@ -1,8 +1,8 @@
-//! The words of the commands on a node file: `check`, `has`, `cells`, `lift` and `cast`.
+//! The words of the commands on a node file: `check`, `has`, `cells`, `lift`, `cast` and `near`.
 
 ghost use Rattle.std.specs.Prelude.{◌≡◌, true, codes};
 ghost use Rattle.svo_words.specs.Choices.{are_names};
-ghost use Rattle.svo_words.specs.Nodes.{nodes_choices, has_choices, kept_choices, check_from, has_from, cells_from, lift_from, cast_from};
+ghost use Rattle.svo_words.specs.Nodes.{nodes_choices, has_choices, kept_choices, check_from, has_from, cells_from, lift_from, cast_from, near_from};
 ghost use Rattle.svo_words.specs.Reading.{IsMade};
 ghost use Rattle.svo_words.specs.Seen.{values_of};
 ghost use Rattle.svo_words.specs.Values.{text_in};
@@ -57,6 +57,15 @@ pub struct CastWords {
     pub keep: i64,
 }
 
+/// The values of `near`, whatever their ranges.
+#[derive(Debug, Drop)]
+pub struct NearWords {
+    /// The name of the node file.
+    pub nodes: Text,
+    /// How many blocks of the file are kept.
+    pub keep: i64,
+}
+
 /// The options of `check` and `lift`.
 #[tactic(auto, unfolding(crate::specs::Nodes::nodes_choices))]
 pub(crate) fn nodes_choices() -> [Choice<'static>; 1]
@@ -75,7 +84,7 @@ pub(crate) fn has_choices() -> [Choice<'static>; 2]
     [Choice::required("nodes"), Choice::required("code")]
 }
 
-/// The options of `cells` and `cast`.
+/// The options of `cells`, `cast` and `near`.
 #[tactic(auto, unfolding(crate::specs::Nodes::kept_choices))]
 pub(crate) fn kept_choices() -> [Choice<'static>; 2]
     ensures table { result ≡ kept_choices }
@@ -158,5 +167,19 @@ pub(crate) fn cast_from(alloc: Global, values: &Values) -> Result<CastWords, Wor
     match nodes_from(alloc, values) {
         Err(fault) => Err(fault),
         Ok(nodes) => Ok(CastWords { nodes, keep }),
+    }
+}
+
+/// The values of `near`: `Value` where one is not of its kind.
+#[tactic(auto, unfolding(crate::specs::Nodes::near_from))]
+pub(crate) fn near_from(alloc: Global, values: &Values) -> Result<NearWords, WordFault>
+    ensures { IsMade (near_from (values_of values.now)) result }
+{
+    let Some(keep) = values.number_or(KEEP, "keep") else {
+        return Err(WordFault::Value);
+    };
+    match nodes_from(alloc, values) {
+        Err(fault) => Err(fault),
+        Ok(nodes) => Ok(NearWords { nodes, keep }),
     }
 }

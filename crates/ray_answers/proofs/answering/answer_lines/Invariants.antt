@@ -9,8 +9,8 @@ abbrev pub invariant-loop-stop : goal.invariant-loop-stop
 invariant-loop-stop g l = record {
   lent : SameLent l.fn.tokens l.tokens;
   free : l.tokens.stopped ≡ None;
-  way : (a : Reading) (start : Option (List ℕ)) → IsUnderWay (g.R.Records.file l.fn.nodes) a (reading l.fn.tokens) start (g.O.ByteSink.written l.fn.out) l.fn.waiting.items
-      → IsUnderWay (g.R.Records.file l.fn.nodes) a (reading l.tokens) start (g.O.ByteSink.written l.out) l.waiting.items;
+  way : (a : Reading) (start : Option (List ℕ)) → IsUnderWay l.fn.kind (g.R.Records.file l.fn.nodes) a (reading l.fn.tokens) start (g.O.ByteSink.written l.fn.out) l.fn.waiting.items
+      → IsUnderWay l.fn.kind (g.R.Records.file l.fn.nodes) a (reading l.tokens) start (g.O.ByteSink.written l.out) l.waiting.items;
   same : g.R.Records.file l.nodes ≡ g.R.Records.file l.fn.nodes;
   lender : g.R.Records.lender l.nodes ≡ g.R.Records.lender l.fn.nodes;
   input : g.I.ByteSource.faults l.fn.tokens.input.now ≤ g.I.ByteSource.faults l.tokens.input.now;

@@ -1,6 +1,6 @@
 use Rattle.std.proofs.Common.{◌<◌, length, arith, inl, inr, refl, sym, subst, ◌∙◌, Result, Err}
 use Rattle.std.proofs.lemmas.Bool.Decides.{nat_tests}
-use Rattle.svo_words.specs.Forms.{commands, build_form, cast_form, check_form, cells_form, has_form, why_form, slice_form, view_form, lift_form, make_form, sum_form}
+use Rattle.svo_words.specs.Forms.{commands, build_form, cast_form, check_form, cells_form, has_form, why_form, slice_form, view_form, lift_form, make_form, sum_form, near_form}
 use Rattle.svo_words.specs.Reading.{IsRead}
 use Rattle.svo_words.specs.declared.commands.Command.{Command}
 use Rattle.svo_words.specs.declared.commands.WordFault.{WordFault}
@@ -74,6 +74,12 @@ returns-in-sum c =
     let some : 0 < length c.args.words.now = grind (arith, nat_tests) in
     arm sum_form c.args.words.now _ c.read_sum.result (inr (inr (inr (inr (inr (inr (inr (inr (inr (inr (inl refl))))))))))) some (sym c.get.ensures ∙ c.in-sum.is) c.tail-in-sum.ensures c.read_sum.ensures
 
+pub returns-in-near : goal.returns-in-near
+unfolding commands
+returns-in-near c =
+    let some : 0 < length c.args.words.now = grind (arith, nat_tests) in
+    arm near_form c.args.words.now _ c.read_near.result (inr (inr (inr (inr (inr (inr (inr (inr (inr (inr (inr (inl refl)))))))))))) some (sym c.get.ensures ∙ c.in-near.is) c.tail-in-near.ensures c.read_near.ensures
+
 pub returns-in_default : goal.returns-in_default
 unfolding commands
 returns-in_default c =
@@ -98,7 +104,7 @@ returns-in_default c =
                       λ same. c.in_default.not-lift (c.get.ensures ∙ same),
                       (
                         λ same. c.in_default.not-make (c.get.ensures ∙ same),
-                        (λ same. c.in_default.not-sum (c.get.ensures ∙ same), tt),
+                        (λ same. c.in_default.not-sum (c.get.ensures ∙ same), (λ same. c.in_default.not-near (c.get.ensures ∙ same), tt)),
                       ),
                     ),
                   ),
