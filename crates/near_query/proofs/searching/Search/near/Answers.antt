@@ -20,8 +20,8 @@ loop-node-init g c = (
   refl,
 )
 
-pub read-requires : goal.read-requires
-read-requires g c =
+pub read_word-requires : goal.read_word-requires
+read_word-requires g c =
     let file = g.R.Records.file c.args.nodes.now in
     subst (λ f. c.in-Some.node.number < f.totals.records) (sym c.loop-node.invariant.3)
     (number_there c.args.point file c.grid.result c.grid.ensures.value c.loop-node.best c.in-Some.node c.loop-node.self.waiting c.take.new.self c.args.reads.now c.loop-node.reads c.in-Some.ensures.items c.loop-node.invariant.0)
