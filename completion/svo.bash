@@ -9,6 +9,7 @@ _svo_options() {
     cells) echo '--nodes --keep' ;;
     lift) echo '--nodes -o' ;;
     cast) echo '--nodes --keep' ;;
+    near) echo '--nodes --keep -o' ;;
     slice) echo '--nodes --axis --at --keep -o' ;;
     view) echo '--nodes --kind --eye --toward --right --up --width --height --far --keep -o' ;;
     why) echo '--triangle --cube' ;;
@@ -78,9 +79,9 @@ _svo() {
     local IFS=$' \n' here=${COMP_WORDS[COMP_CWORD]} before=${COMP_WORDS[COMP_CWORD - 1]} command=${COMP_WORDS[1]}
     COMPREPLY=()
     if [[ $COMP_CWORD == 1 ]]; then
-        COMPREPLY=($(compgen -W 'build check has cells lift cast slice view why make sum survey info ascii help --help --version' -- "$here"))
+        COMPREPLY=($(compgen -W 'build check has cells lift cast near slice view why make sum survey info ascii help --help --version' -- "$here"))
     elif [[ $command == help ]]; then
-        [[ $COMP_CWORD == 2 ]] && COMPREPLY=($(compgen -W 'build check has cells lift cast slice view why make sum survey info ascii' -- "$here"))
+        [[ $COMP_CWORD == 2 ]] && COMPREPLY=($(compgen -W 'build check has cells lift cast near slice view why make sum survey info ascii' -- "$here"))
     elif [[ $here == = ]]; then
         _svo_values "$before" ''
     elif [[ $before == = ]]; then

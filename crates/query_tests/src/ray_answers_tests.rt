@@ -5,8 +5,9 @@ ghost use Rattle.std.specs.Prelude.{◌≡◌, ◌<◌};
 use dev_traits::{ByteSink, ByteSource, MemSink, MemSource, MemStore, NodeStore, PartFail};
 use node_check::WalkFault;
 use node_file::{Frame, Nodes};
-use ray_answers::RayStop::{BadRay, LineTooLong, Range, ReadFault, Walk, WriteFault};
-use ray_answers::{RayStop, answer_rays, answers_are_one, fronts_are_of_all_answers};
+use ray_answers::LineFault::{BadRay, LineTooLong, RayRange};
+use ray_answers::LineStop::{AtLine, ReadFault, Walk, WriteFault};
+use ray_answers::{LineStop, QueryKind, answer_text, answers_are_one, fronts_are_of_all_answers};
 use std::alloc::{AllocError, Global};
 use std::marker::Brand;
 use std::sync::ledger::{Blank, Ledger};
@@ -22,7 +23,7 @@ const FACED: [u8; 120] =
     *b"SVOCUBE2\x01\0\0\0\0\0\0\0\0\0\0\0\0\0\0\0\0\0\0\0\0\0\0\0\0\0\0\0\0\0\0\0\x01\0\0\0\0\0\0\0\x01\x01\0\0\0\0\0\0\x01\x01\0\0\0\0\0\0\x01\x01\0\0\0\0\0\0\x01\0\0\0\0\0\0\0\x87\0\0\0\0\0\0\0\0\0\0\0\0\0\0\0\x05\0\0\0\0\0\0\0\x04\0\0\0\0\0\0\0SVOCEND2";
 
 /// A text, what is put out, and how the answers end.
-type Row = (&'static str, &'static str, Result<(), RayStop>);
+type Row = (&'static str, &'static str, Result<(), LineStop>);
 
 const ON_EIGHT: &[Row] = &[
     ("", "", Ok(())),
@@ -35,26 +36,34 @@ const ON_EIGHT: &[Row] = &[
         Ok(()),
     ),
     ("\n5\t2 2  -1 0 0 \n", "hit 2/1 cell 14 face 0\n", Ok(())),
-    ("1 2 3", "", Err(BadRay(0))),
-    ("\n1 2 3 4 5 6 7\n", "", Err(BadRay(1))),
+    ("1 2 3", "", Err(AtLine(BadRay(0)))),
+    ("\n1 2 3 4 5 6 7\n", "", Err(AtLine(BadRay(1)))),
     (
         "2 2 2 1 0 0\n1 2 3 4 5 +6\n2 2 2 1 0 0\n",
         "hit 0/1 cell 7 face 0\n",
-        Err(BadRay(12)),
+        Err(AtLine(BadRay(12))),
     ),
-    ("2 2 2 1 0 -\n", "", Err(BadRay(0))),
-    ("2 2 2 1 0 0000000000000000000\n", "", Err(BadRay(0))),
+    ("2 2 2 1 0 -\n", "", Err(AtLine(BadRay(0)))),
+    (
+        "2 2 2 1 0 0000000000000000000\n",
+        "",
+        Err(AtLine(BadRay(0))),
+    ),
     (
         "2 2 2 1 0 000000000000000000\n",
         "hit 0/1 cell 7 face 0\n",
         Ok(()),
     ),
-    ("0 0 0 0 0 0\n", "", Err(Range(0))),
-    ("\r\n999999999999999999 0 0 1 0 0\n", "", Err(Range(2))),
+    ("0 0 0 0 0 0\n", "", Err(AtLine(RayRange(0)))),
+    (
+        "\r\n999999999999999999 0 0 1 0 0\n",
+        "",
+        Err(AtLine(RayRange(2))),
+    ),
     (
         "2 2 2 1 0 0\n0 0 0 1073741825 0 0",
         "hit 0/1 cell 7 face 0\n",
-        Err(Range(12)),
+        Err(AtLine(RayRange(12))),
     ),
 ];
 
@@ -67,7 +76,7 @@ const ON_FACED: &[Row] = &[
     (
         "-1 0 0 1 0 0\n1 2 3",
         "hit 1/1 cell 0 face 1\n",
-        Err(BadRay(13)),
+        Err(AtLine(BadRay(13))),
     ),
 ];
 
@@ -97,19 +106,21 @@ const NO_FAILS: Fails = Fails {
 #[derive(Drop)]
 struct Told {
     out: MemSink,
-    ended: Option<Result<(), RayStop>>,
+    ended: Option<Result<(), LineStop>>,
 }
 
 fn answer_named<N: NodeStore, I: ByteSource, O: ByteSink, L: Ledger>(
+    alloc: Global,
     store: &mut N,
     input: &mut I,
     out: &mut O,
     reads: &mut Steps<L>,
-) -> Option<Result<(), RayStop>> {
+) -> Option<Result<(), LineStop>> {
     match Frame::read(store, "octree") {
         Ok(frame) => {
             let mut nodes = Nodes::new(store, frame);
-            Some(answer_rays(&mut nodes, input, out, reads))
+            let kind = QueryKind::Rays;
+            Some(answer_text(alloc, kind, &mut nodes, input, out, reads))
         }
         Err(_) => None,
     }
@@ -136,7 +147,7 @@ fn answer_counted<L: Ledger>(
     };
     let mut out = MemSink::new(alloc, 8192, &[refused])?;
     let mut reads = Steps::<L>::new(blank);
-    let ended = answer_named(&mut store, &mut input, &mut out, &mut reads);
+    let ended = answer_named(alloc, &mut store, &mut input, &mut out, &mut reads);
     Ok(Told { out, ended })
 }
 
@@ -175,7 +186,11 @@ fn answers_come_in_blocks_and_before_a_stop(rt: HostRuntime) -> Result<(), Fail>
     let told = told_by(rt.alloc(), &EIGHT, text.as_slice(), NO_FAILS)?;
     assert!(rt; told.out.bytes() == answers.as_slice(), "all answers");
     assert_eq!(rt; told.out.calls(), 2, "blocks");
-    assert_eq!(rt; told.ended, Some(Err(LineTooLong(3600))), "the stop");
+    assert_eq!(rt;
+        told.ended,
+        Some(Err(AtLine(LineTooLong(3600)))),
+        "the stop"
+    );
     Ok(())
 }
 

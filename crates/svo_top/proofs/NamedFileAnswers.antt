@@ -18,9 +18,9 @@ use Rattle.node_file.specs.Stored.{word_in, words_in, AreBytes}
 use Rattle.node_file.specs.declared.loading.Frame.{Frame}
 use Rattle.node_file.specs.declared.loading.LoadFault.{LoadFault}
 use Rattle.node_file.specs.declared.loading.LoadFault.TheVariants as load
-use Rattle.ray_answers.specs.RayTexts.{rays_of}
-use Rattle.ray_answers.specs.declared.stops.RayStop.{RayStop}
-use Rattle.svo_top.specs.Rays.{EndsText}
+use Rattle.ray_answers.specs.QueryTexts.{queries_of}
+use Rattle.ray_answers.specs.declared.stops.LineStop.{LineStop}
+use Rattle.svo_top.specs.InputLines.{EndsText}
 use Rattle.svo_top.specs.FileAnswers.{bar, is_code}
 use Rattle.svo_top.specs.Picturing.{is_layer}
 use Rattle.svo_top.specs.FileQuestion.{Works, Admits, AsksFile, AsksBytes, EndsAtOnce, IsLate, NeedsGrid, Ends, Reads, Asks, keeps_blocks}
@@ -228,23 +228,23 @@ asked_by_name view loaded_as question name input out nodes between status framed
 -- ---- how it ends
 
 -- a text of which nothing was read ends in no way that a status would name
-pub reads_kept : (question : Question) (input : Change) (status : Status) → IsKept input → ((text : List ℕ) (end : Option RayStop) → EndsText text end input.after status) → Reads question input status
+pub reads_kept : (question : Question) (input : Change) (status : Status) → IsKept input → ((text : List ℕ) (end : Option LineStop) → EndsText text end input.after status) → Reads question input status
 reads_kept question.Check input status kept none = kept
 reads_kept (question.Has code) input status kept none = kept
 reads_kept question.Cells input status kept none = kept
 reads_kept question.Lift input status kept none = kept
 reads_kept (question.Slice axis at) input status kept none = kept
 reads_kept (question.View camera) input status kept none = kept
-reads_kept question.Cast input status kept none = λ text told. none text (rays_of text).end
+reads_kept (question.Lines kind) input status kept none = λ text told. none text (queries_of kind text).end
 
 pub load_ends : (question : Question) (input out : Change) (before after : ℕ) → IsKept input → (fault : LoadFault) → FailsOnlyByFault {T = Frame} before after (Err fault)
     → Ends question input out before after (status_of_load fault)
 load_ends question input out before after kept load.NoFile cause =
-    record { may = tt; reads = reads_kept question input (Refused NoFile) kept (λ text end. tt); read = λ e. absurd cc; written = λ e. absurd cc; looked = λ e. absurd cc; memory = λ e. absurd cc; barred = λ one needs e. absurd cc }
+    record { may = tt; reads = reads_kept question input (Refused NoFile) kept (λ text end. tt); read = λ e. absurd cc; written = λ e. absurd cc; looked = λ e. absurd cc; memory = λ taken e. absurd cc; barred = λ one needs e. absurd cc }
 load_ends question input out before after kept load.NotNodes cause =
-    record { may = tt; reads = reads_kept question input (Refused NotNodes) kept (λ text end. tt); read = λ e. absurd cc; written = λ e. absurd cc; looked = λ e. absurd cc; memory = λ e. absurd cc; barred = λ one needs e. absurd cc }
+    record { may = tt; reads = reads_kept question input (Refused NotNodes) kept (λ text end. tt); read = λ e. absurd cc; written = λ e. absurd cc; looked = λ e. absurd cc; memory = λ taken e. absurd cc; barred = λ one needs e. absurd cc }
 load_ends question input out before after kept load.Failed cause =
-    record { may = tt; reads = reads_kept question input (Device Nodes) kept (λ text end. tt); read = λ e. absurd cc; written = λ e. absurd cc; looked = λ e. cause.failed refl; memory = λ e. absurd cc; barred = λ one needs e. absurd cc }
+    record { may = tt; reads = reads_kept question input (Device Nodes) kept (λ text end. tt); read = λ e. absurd cc; written = λ e. absurd cc; looked = λ e. cause.failed refl; memory = λ taken e. absurd cc; barred = λ one needs e. absurd cc }
 
 -- a store that had counted before is blamed still
 pub ends_later : (question : Question) (input out : Change) (before between after : ℕ) (status : Status) → before ≤ between → Ends question input out between after status
@@ -282,7 +282,7 @@ memory_ends question input out before after keeps kept_input kept_out = record {
   read = λ e. absurd cc;
   written = λ e. absurd cc;
   looked = λ e. absurd cc;
-  memory = λ e. (kept_input, kept_out);
+  memory = λ taken e. (kept_input, kept_out);
   barred = λ fault needs e. absurd cc;
 }
 
@@ -297,7 +297,7 @@ module _ (asked_of : Question) (file : FileView) (input out : Change) (before af
       code_late false e = let same : Code ≡ fault = cc in subst (λ f. IsLate (question.Has code) f) same tt
   is_late question.Cells depth fault e = absurd cc
   is_late question.Lift depth fault e = absurd cc
-  is_late question.Cast depth fault e = absurd cc
+  is_late (question.Lines kind) depth fault e = absurd cc
   is_late (question.Slice axis at) depth fault e = (layer_late (is_layer at depth) e, unread)
     where
       layer_late : (b : Bool) → (if b then None else Some BadSlice) ≡ Some fault → IsLate (question.Slice axis at) fault
@@ -311,14 +311,14 @@ module _ (asked_of : Question) (file : FileView) (input out : Change) (before af
   stop_ends (Input kind place) admits = absurd admits
   stop_ends (Range fault) admits =
       let late = is_late asked_of file.grid.depth fault admits.1 in
-      record { may = late.0; reads = late.1; read = λ e. absurd cc; written = λ e. absurd cc; looked = λ e. absurd cc; memory = λ e. absurd cc; barred = λ one needs e. unwritten }
+      record { may = late.0; reads = late.1; read = λ e. absurd cc; written = λ e. absurd cc; looked = λ e. absurd cc; memory = λ taken e. absurd cc; barred = λ one needs e. unwritten }
   stop_ends (Device Read) admits = absurd admits
   stop_ends (Device Scratch) admits = absurd admits
   stop_ends (Device Write) admits = absurd admits
   stop_ends (Device Nodes) admits =
-      record { may = tt; reads = reads_kept asked_of input (Device Nodes) unread (λ text end. tt); read = λ e. absurd cc; written = λ e. absurd cc; looked = λ e. admits; memory = λ e. absurd cc; barred = λ one needs e. absurd cc }
+      record { may = tt; reads = reads_kept asked_of input (Device Nodes) unread (λ text end. tt); read = λ e. absurd cc; written = λ e. absurd cc; looked = λ e. admits; memory = λ taken e. absurd cc; barred = λ one needs e. absurd cc }
   stop_ends (Refused NoFile) admits = absurd admits
   stop_ends (Refused NotNodes) admits = absurd admits
   stop_ends (Refused (Number number)) admits =
-      record { may = tt; reads = reads_kept asked_of input (Refused (Number number)) unread (λ text end. tt); read = λ e. absurd cc; written = λ e. absurd cc; looked = λ e. absurd cc; memory = λ e. absurd cc; barred = λ one needs e. absurd cc }
+      record { may = tt; reads = reads_kept asked_of input (Refused (Number number)) unread (λ text end. tt); read = λ e. absurd cc; written = λ e. absurd cc; looked = λ e. absurd cc; memory = λ taken e. absurd cc; barred = λ one needs e. absurd cc }
   stop_ends Memory admits = absurd admits

@@ -5,18 +5,19 @@ use Rattle.svo_base.specs.GridShape.{GridShape}
 use Rattle.dev_traits.specs.Change.{Change, IsFaultless}
 use Rattle.dev_traits.specs.Faults.{DidNotRise}
 use Rattle.octree_specs.specs.Cells.{Cell}
-use Rattle.ray_answers.specs.Casting.{PutsAnswers}
-use Rattle.ray_answers.specs.RayTexts.{rays_of}
-use Rattle.ray_answers.specs.Laws.{AnswersAreOne as RaysHaveOneText}
+use Rattle.ray_answers.specs.Answering.{PutsAnswers}
+use Rattle.ray_answers.specs.QueryTexts.{queries_of}
+use Rattle.ray_answers.specs.Laws.{AnswersAreOne as LinesHaveOneText}
 use Rattle.slice_view.specs.Laws.{ViewsAreOne}
-use Rattle.ray_fraction.specs.RayShape.{RayShape}
+use Rattle.ray_answers.specs.declared.queries.Query.{Query}
+use Rattle.ray_answers.specs.declared.queries.QueryKind.{QueryKind}
 use Rattle.svo_top.specs.FileAnswers.{bar}
 use Rattle.svo_top.specs.FileQuestion.{Answers, Works, Ends, Asks}
 use Rattle.svo_top.specs.Laws.{IsAnswered, AnswersAreOne}
 use Rattle.svo_top.specs.NodeFiles.{Tells, Keeps}
 use Rattle.svo_top.specs.Picturing.{Views}
 use Rattle.slice_view.specs.Cameras.{CameraShape}
-use Rattle.svo_top.specs.Rays.{Casts, AnswersRays, status_of_end}
+use Rattle.svo_top.specs.InputLines.{AnswersInput, AnswersLines, status_of_end}
 use Rattle.svo_top.specs.declared.file_question.Question.{Question}
 use Rattle.svo_top.specs.declared.file_question.Question.TheVariants as question
 use Rattle.svo_top.specs.declared.outcome.Status.{Status}
@@ -39,22 +40,22 @@ one_growth before after other_before other_after told put other added too begins
     one_value : (x y : List ℕ) → Some x ≡ Some y → x ≡ y
     one_value x y is = cc
 
--- rays of which no device failed were all answered
-all_answered : (grid : GridShape) (cells : List Cell) (rays : List RayShape) (input out : Change) (before after : ℕ) (status : Status) → IsFaultless input → IsFaultless out → DidNotRise before after
-    → status ≢ Memory → Ends question.Cast input out before after status → AnswersRays grid cells rays out status → PutsAnswers grid cells rays out.before out.after
-all_answered grid cells rays input out before after Done read written looked remembered ends answers = answers
-all_answered grid cells rays input out before after (Usage kind) read written looked remembered ends answers = absurd answers
-all_answered grid cells rays input out before after (Input kind place) read written looked remembered ends answers = answers
-all_answered grid cells rays input out before after (Range fault) read written looked remembered ends answers = answers
-all_answered grid cells rays input out before after (Device Read) read written looked remembered ends answers = absurd (clash input.faults_before input.faults_after (ends.read refl) read)
-all_answered grid cells rays input out before after (Device Scratch) read written looked remembered ends answers = absurd ends.may
-all_answered grid cells rays input out before after (Device Write) read written looked remembered ends answers = absurd (clash out.faults_before out.faults_after (ends.written refl) written)
-all_answered grid cells rays input out before after (Device Nodes) read written looked remembered ends answers = absurd (clash before after (ends.looked refl) looked)
-all_answered grid cells rays input out before after (Refused refusal) read written looked remembered ends answers = absurd answers
-all_answered grid cells rays input out before after Memory read written looked remembered ends answers = absurd (remembered refl)
+-- lines of which no device failed were all answered
+all_answered : (kind : QueryKind) (grid : GridShape) (cells : List Cell) (queries : List Query) (input out : Change) (before after : ℕ) (status : Status) → IsFaultless input → IsFaultless out → DidNotRise before after
+    → status ≢ Memory → Ends (question.Lines kind) input out before after status → AnswersLines kind grid cells queries out status → PutsAnswers grid cells rays out.before out.after
+all_answered kind grid cells queries input out before after Done read written looked remembered ends answers = answers
+all_answered kind grid cells queries input out before after (Usage usage) read written looked remembered ends answers = absurd answers
+all_answered kind grid cells queries input out before after (Input refused place) read written looked remembered ends answers = answers
+all_answered kind grid cells queries input out before after (Range fault) read written looked remembered ends answers = answers
+all_answered kind grid cells queries input out before after (Device Read) read written looked remembered ends answers = absurd (clash input.faults_before input.faults_after (ends.read refl) read)
+all_answered kind grid cells queries input out before after (Device Scratch) read written looked remembered ends answers = absurd ends.may
+all_answered kind grid cells queries input out before after (Device Write) read written looked remembered ends answers = absurd (clash out.faults_before out.faults_after (ends.written refl) written)
+all_answered kind grid cells queries input out before after (Device Nodes) read written looked remembered ends answers = absurd (clash before after (ends.looked refl) looked)
+all_answered kind grid cells queries input out before after (Refused refusal) read written looked remembered ends answers = absurd answers
+all_answered kind grid cells queries input out before after Memory read written looked remembered ends answers = absurd (remembered refl)
 
--- the two laws below: of the answers to rays, and of views
-module _ (rays_are_one : RaysHaveOneText) (views_are_one : ViewsAreOne) where
+-- the two laws below: of the answers to lines, and of views
+module _ (lines_are_one : LinesHaveOneText) (views_are_one : ViewsAreOne) where
   module _ (asked : Question) (bytes : Option (List ℕ)) (text told put other : List ℕ) (status ends : Status) (one : IsAnswered asked bytes text told put status) (two : IsAnswered asked bytes text told other ends) where
     abbrev Alike : Type 0
     Alike = (put ≡ other) × (status ≡ ends)
@@ -79,17 +80,17 @@ module _ (rays_are_one : RaysHaveOneText) (views_are_one : ViewsAreOne) where
           done ∙ sym too,
         )
 
-    same_rays : (grid : GridShape) (cells : List Cell) → Ends question.Cast one.input one.out one.nodes.faults_before one.nodes.faults_after status
-        → Ends question.Cast two.input two.out two.nodes.faults_before two.nodes.faults_after ends
-        → Casts grid cells one.input one.out one.nodes.faults_before one.nodes.faults_after status → Casts grid cells two.input two.out two.nodes.faults_before two.nodes.faults_after ends → Alike
-    same_rays grid cells ends_here ends_there here there =
-        let wanted : Status = status_of_end (rays_of text).end in
+    same_lines : (kind : QueryKind) (grid : GridShape) (cells : List Cell) → Ends (question.Lines kind) one.input one.out one.nodes.faults_before one.nodes.faults_after status
+        → Ends (question.Lines kind) two.input two.out two.nodes.faults_before two.nodes.faults_after ends
+        → AnswersInput kind grid cells one.input one.out one.nodes.faults_before one.nodes.faults_after status → AnswersInput kind grid cells two.input two.out two.nodes.faults_before two.nodes.faults_after ends → Alike
+    same_lines kind grid cells ends_here ends_there here there =
+        let wanted : Status = status_of_end (queries_of kind text).end in
         let is : status ≡ wanted = ended status wanted one.remembered (here.complete text one.reads one.unfailed.0 one.unfailed.1 one.unfailed.2) in
         let too : ends ≡ wanted = ended ends wanted two.remembered (there.complete text two.reads two.unfailed.0 two.unfailed.1 two.unfailed.2) in
-        let mine = all_answered grid cells (rays_of text).rays one.input one.out one.nodes.faults_before one.nodes.faults_after status one.unfailed.0 one.unfailed.1 one.unfailed.2 one.remembered ends_here (here.answered text one.reads) in
-        let theirs = all_answered grid cells (rays_of text).rays two.input two.out two.nodes.faults_before two.nodes.faults_after ends two.unfailed.0 two.unfailed.1 two.unfailed.2 two.remembered ends_there (there.answered text two.reads) in (
+        let mine = all_answered kind grid cells (queries_of kind text).queries one.input one.out one.nodes.faults_before one.nodes.faults_after status one.unfailed.0 one.unfailed.1 one.unfailed.2 one.remembered ends_here (here.answered text one.reads) in
+        let theirs = all_answered kind grid cells (queries_of kind text).queries two.input two.out two.nodes.faults_before two.nodes.faults_after ends two.unfailed.0 two.unfailed.1 two.unfailed.2 two.remembered ends_there (there.answered text two.reads) in (
           one_growth one.out.before one.out.after two.out.before two.out.after told put other mine.answers theirs.answers one.begins two.begins one.ends two.ends mine.put theirs.put
-              (rays_are_one grid cells (rays_of text).rays mine.answers theirs.answers mine.are theirs.are),
+              (lines_are_one grid cells (queries_of kind text).queries mine.answers theirs.answers mine.are theirs.are),
           is ∙ sym too,
         )
 
@@ -100,8 +101,8 @@ module _ (rays_are_one : RaysHaveOneText) (views_are_one : ViewsAreOne) where
   same_works (question.Has code) bytes format grid cells text told put other status ends one two here there = same_text (question.Has code) bytes text told put other status ends one two _ here there
   same_works question.Cells bytes format grid cells text told put other status ends one two here there = same_text question.Cells bytes text told put other status ends one two _ here there
   same_works question.Lift bytes format grid cells text told put other status ends one two here there = same_text question.Lift bytes text told put other status ends one two _ here there
-  same_works question.Cast bytes format grid cells text told put other status ends one two here there =
-      same_rays question.Cast bytes text told put other status ends one two grid cells one.asks.ends two.asks.ends here there
+  same_works (question.Lines kind) bytes format grid cells text told put other status ends one two here there =
+      same_lines (question.Lines kind) bytes text told put other status ends one two kind grid cells one.asks.ends two.asks.ends here there
   same_works (question.Slice axis at) bytes format grid cells text told put other status ends one two here there = same_text (question.Slice axis at) bytes text told put other status ends one two _ here there
   same_works (question.View camera) bytes format grid cells text told put other status ends one two here there = same_view (question.View camera) bytes text told put other status ends one two camera grid cells here there
 

@@ -1,5 +1,5 @@
 -- What a question answers of a loaded file, from what its parts gave.
-use Rattle.std.proofs.Common.{◌≡◌, ◌≢◌, ◌⊎◌, ℕ, suc, ◌*◌, ◌^◌, ◌≤◌, ◌<◌, Bool, true, false, List, [], ◌++◌, length, Option, None, Some, Result, Ok, Err, refl, sym, ap, subst, ◌∙◌, inl, inr, arith}
+use Rattle.std.proofs.Common.{◌≡◌, ◌≢◌, ◌⊎◌, ℕ, suc, ◌*◌, ◌^◌, ◌≤◌, ◌<◌, Bool, true, false, List, [], ◌++◌, length, Option, None, Some, Result, Ok, Err, refl, sym, ap, subst, ◌∙◌, inl, inr, arith, IfErr}
 use Rattle.std.specs.Prelude.{◌&&◌, if◌then◌else◌, nat_lt, ℤ, pos, int_le, unsigned_abs, IfSome, drop}
 use Rattle.std.specs.Result.{result_err}
 use Rattle.std.proofs.lemmas.Bool.{and_parts}
@@ -22,14 +22,18 @@ use Rattle.node_check.specs.declared.stops.AnswerStop.TheVariants.{WriteFault, W
 use Rattle.node_check.specs.declared.walking.WalkFault.TheVariants as walk
 use Rattle.svo_top.specs.FileAnswers.{bar, check_line}
 use Rattle.ply_reader.specs.WholeMeshes.{IsReadTo}
-use Rattle.ray_fraction.specs.RayShape.{RayShape}
 use Rattle.ray_walk.specs.Answers.{TellsCells}
-use Rattle.ray_answers.specs.Casting.{EndsSo, HasAnswered, HasRead, HasRayCause, RefusesNoWord, PutsSomeAnswers}
-use Rattle.ray_answers.specs.RayTexts.{rays_of}
-use Rattle.ray_answers.specs.declared.stops.RayStop.{RayStop}
-use Rattle.ray_answers.specs.declared.stops.RayStop.TheVariants as stop
-use Rattle.svo_top.specs.Rays.{Casts, ReadsRays, AnswersRays, status_of_end, status_of_rays}
-use Rattle.svo_top.specs.FileQuestion.{MayEnd, ComesAfterFile, Answers, Works, Admits, AsksFile, Ends, EndsAtOnce, NeedsGrid}
+use Rattle.ray_answers.specs.Answering.{EndsSo, HasAnswered, HasRead, HasLineCause, IsFaultOf, fault_place, MayStop, RefusesNoWord, PutsAnswers, PutsSomeAnswers}
+use Rattle.ray_answers.specs.QueryTexts.{queries_of}
+use Rattle.ray_answers.specs.declared.queries.Query.{Query}
+use Rattle.ray_answers.specs.declared.queries.QueryKind.{QueryKind}
+use Rattle.ray_answers.specs.declared.queries.QueryKind.TheVariants.{Rays, Points}
+use Rattle.ray_answers.specs.declared.stops.LineFault.{LineFault}
+use Rattle.ray_answers.specs.declared.stops.LineFault.TheVariants as line
+use Rattle.ray_answers.specs.declared.stops.LineStop.{LineStop}
+use Rattle.ray_answers.specs.declared.stops.LineStop.TheVariants as stop
+use Rattle.svo_top.specs.InputLines.{AnswersInput, ReadsLines, AnswersLines, EndsAt, EndsText, LeavesOut, status_of_end, status_of_line, status_of_lines}
+use Rattle.svo_top.specs.FileQuestion.{MayEnd, ComesAfterFile, Answers, Works, Admits, AsksFile, Ends, EndsAtOnce, NeedsGrid, takes_memory}
 use Rattle.slice_view.specs.Cameras.{CameraShape}
 use Rattle.slice_view.specs.Pictures.{pgm_header}
 use Rattle.slice_view.specs.Views.{PutsView}
@@ -42,8 +46,10 @@ use Rattle.svo_top.specs.declared.file_question.Question.{Question}
 use Rattle.svo_top.specs.declared.file_question.Question.TheVariants as question
 use Rattle.svo_top.specs.declared.outcome.Status.{Status}
 use Rattle.svo_top.specs.declared.outcome.Status.TheVariants.{Done, Usage, Input, Range, Device, Refused, Memory}
+use Rattle.svo_top.specs.declared.outcome.InputKind.{InputKind}
+use Rattle.svo_top.specs.declared.outcome.InputKind.TheVariants.{BadRay, BadPoint, LineTooLong, TooLong}
 use Rattle.svo_top.specs.declared.outcome.RangeFault.{RangeFault}
-use Rattle.svo_top.specs.declared.outcome.RangeFault.TheVariants.{Decimals, Grid, TooLarge, TooSmall, Triangle, Cube, Keep, Code, Made, Slice as BadSlice, View as BadView, Ray}
+use Rattle.svo_top.specs.declared.outcome.RangeFault.TheVariants.{Decimals, Grid, TooLarge, TooSmall, Triangle, Cube, Keep, Code, Made, Slice as BadSlice, View as BadView, Ray, Point}
 use Rattle.svo_top.specs.declared.outcome.NodeRefusal.{NodeRefusal}
 use Rattle.svo_top.specs.declared.outcome.NodeRefusal.TheVariants.{NoFile, NotNodes, Number}
 use Rattle.svo_top.specs.declared.outcome.Device.TheVariants.{Read, Scratch, Write, Nodes}
@@ -125,147 +131,152 @@ pub kept_told : (file : FileView) (P : List Cell → Type 0) → IfSome file.wor
 kept_told file P told cells keeps =
     subst (λ o. IfSome o (λ words. (cells : List Cell) → StandFor file.format file.grid.depth words cells → P cells)) keeps.told told cells keeps.stand
 
--- ---- rays
+-- ---- lines
 
-status_by_end : {T : Type 0} (result : Result T RayStop) → status_of_rays result ≡ status_of_end (result_err result)
+-- what holds of each status of a line that is not answered
+by_line : (P : Status → Type 0) → ((refused : InputKind) (place : ℕ) → P (Input refused place)) → ((fault : RangeFault) → P (Range fault)) → (fault : LineFault) → P (status_of_line fault)
+by_line P input range (line.BadRay place) = input BadRay place
+by_line P input range (line.BadPoint place) = input BadPoint place
+by_line P input range (line.LineTooLong place) = input LineTooLong place
+by_line P input range (line.TooLong place) = input TooLong place
+by_line P input range (line.RayRange place) = range (Ray place)
+by_line P input range (line.PointRange place) = range (Point place)
+
+-- what holds of each status of lines whose answers end so
+module _ (P : Status → Type 0) (done : P Done) (input : (refused : InputKind) (place : ℕ) → P (Input refused place)) (range : (fault : RangeFault) → P (Range fault)) where
+  unless_stopped : {T : Type 0} (result : Result T LineStop) → (result ≡ Err stop.ReadFault → P (Device Read)) → (result ≡ Err stop.WriteFault → P (Device Write))
+      → (result ≡ Err (stop.Walk walk.Failed) → P (Device Nodes)) → ((number word : ℕ) → result ≡ Err (stop.Walk (walk.Refused number word)) → P (Refused (Number number)))
+      → (result ≡ Err stop.Memory → P Memory) → P (status_of_lines result)
+  unless_stopped (Ok answered) read write nodes refused memory = done
+  unless_stopped (Err (stop.AtLine fault)) read write nodes refused memory = by_line P input range fault
+  unless_stopped (Err stop.ReadFault) read write nodes refused memory = read refl
+  unless_stopped (Err stop.WriteFault) read write nodes refused memory = write refl
+  unless_stopped (Err (stop.Walk walk.Failed)) read write nodes refused memory = nodes refl
+  unless_stopped (Err (stop.Walk (walk.Refused number word))) read write nodes refused memory = refused number word refl
+  unless_stopped (Err stop.Memory) read write nodes refused memory = memory refl
+
+status_by_end : {T : Type 0} (result : Result T LineStop) → status_of_lines result ≡ status_of_end (result_err result)
 status_by_end (Ok done) = refl
 status_by_end (Err stop) = refl
 
-rays_put : {T : Type 0} (grid : GridShape) (cells : List Cell) (rays : List RayShape) (out : Change) (result : Result T RayStop) → HasAnswered grid cells rays out.before out.after result
-    → AnswersRays grid cells rays out (status_of_rays result)
-rays_put grid cells rays out (Ok done) answered = answered
-rays_put grid cells rays out (Err (stop.BadRay place)) answered = answered
-rays_put grid cells rays out (Err (stop.LineTooLong place)) answered = answered
-rays_put grid cells rays out (Err (stop.TooLong place)) answered = answered
-rays_put grid cells rays out (Err (stop.Range place)) answered = answered
-rays_put grid cells rays out (Err stop.ReadFault) answered = answered
-rays_put grid cells rays out (Err stop.WriteFault) answered = answered
-rays_put grid cells rays out (Err (stop.Walk walk.Failed)) answered = answered
-rays_put grid cells rays out (Err (stop.Walk (walk.Refused number word))) answered = absurd answered
+forgot_for_points : (kind : QueryKind) (grid : GridShape) (cells : List Cell) (queries : List Query) (out : Change) → kind ≡ Points → PutsSomeAnswers grid cells queries out.before out.after → AnswersLines kind grid cells queries out Memory
+forgot_for_points Rays grid cells queries out points answered = absurd cc
+forgot_for_points Points grid cells queries out points answered = answered
 
-pub casts_of : {T : Type 0} (file : FileView) (input out : Change) (before after : ℕ) (result : Result T RayStop)
-    → ((text : List ℕ) (cells : List Cell) → input.before ≡ Some text → TellsCells file cells → HasAnswered file.grid cells (rays_of text).rays out.before out.after result)
-    → ((text : List ℕ) (cells : List Cell) → input.before ≡ Some text → TellsCells file cells → IsFaultless input → IsFaultless out → DidNotRise before after → result_err result ≡ (rays_of text).end)
-    → (cells : List Cell) → KeepsCells file cells → Casts file.grid cells input out before after (status_of_rays result)
-casts_of file input out before after result answered complete cells keeps =
+lines_put : {T : Type 0} (kind : QueryKind) (grid : GridShape) (cells : List Cell) (queries : List Query) (out : Change) (result : Result T LineStop) → IfErr result (MayStop kind)
+    → HasAnswered grid cells queries out.before out.after result → AnswersLines kind grid cells queries out (status_of_lines result)
+lines_put kind grid cells queries out (Ok done) may answered = answered
+lines_put kind grid cells queries out (Err (stop.AtLine fault)) may answered = by_line (AnswersLines kind grid cells queries out) (λ refused place. answered) (λ range. answered) fault
+lines_put kind grid cells queries out (Err stop.ReadFault) may answered = answered
+lines_put kind grid cells queries out (Err stop.WriteFault) may answered = answered
+lines_put kind grid cells queries out (Err (stop.Walk walk.Failed)) may answered = answered
+lines_put kind grid cells queries out (Err (stop.Walk (walk.Refused number word))) may answered = absurd answered
+lines_put kind grid cells queries out (Err stop.Memory) may answered = forgot_for_points kind grid cells queries out may answered
+
+ended_so : {T : Type 0} (result : Result T LineStop) (end : Option LineStop) → (result_err result ≡ end) ⊎ (result ≡ Err stop.Memory) → (status_of_lines result ≡ status_of_end end) ⊎ (status_of_lines result ≡ Memory)
+ended_so result end (inl is) = inl (status_by_end result ∙ ap status_of_end is)
+ended_so result end (inr is) = inr (ap status_of_lines is)
+
+pub answers_input : {T : Type 0} (kind : QueryKind) (file : FileView) (input out : Change) (before after : ℕ) (result : Result T LineStop) → IfErr result (MayStop kind)
+    → ((text : List ℕ) (cells : List Cell) → input.before ≡ Some text → TellsCells file cells → HasAnswered file.grid cells (queries_of kind text).queries out.before out.after result)
+    → ((text : List ℕ) (cells : List Cell) → input.before ≡ Some text → TellsCells file cells → IsFaultless input → IsFaultless out → DidNotRise before after
+    → (result_err result ≡ (queries_of kind text).end) ⊎ (result ≡ Err stop.Memory))
+    → (cells : List Cell) → KeepsCells file cells → AnswersInput kind file.grid cells input out before after (status_of_lines result)
+answers_input kind file input out before after result may answered complete cells keeps =
     let tells : TellsCells file cells = record { words = keeps.words; told = keeps.told; stand = keeps.stand } in
     record {
-      answered = λ text told. rays_put file.grid cells (rays_of text).rays out result (answered text cells told tells);
-      complete = λ text told a b c. inl (status_by_end result ∙ ap status_of_end (complete text cells told tells a b c));
+      answered = λ text told. lines_put kind file.grid cells (queries_of kind text).queries out result may (answered text cells told tells);
+      complete = λ text told a b c. ended_so result (queries_of kind text).end (complete text cells told tells a b c);
     }
 
-pub reads_of : {T : Type 0} (input : Change) (result : Result T RayStop)
-    → ((text : List ℕ) → input.before ≡ Some text → EndsSo (rays_of text).end result) → ((text : List ℕ) → input.before ≡ Some text → HasRead text input.after result)
-    → ReadsRays input (status_of_rays result)
-reads_of input (Ok done) ends read = λ text told. (ends text told, read text told)
-reads_of input (Err (stop.BadRay place)) ends read = λ text told. (ends text told, to_place text place (read text told))
+-- the text was read up to the line that is named
+ends_at_line : (text : List ℕ) (end : Option LineStop) (left : Option (List ℕ)) (fault : LineFault) → EndsAt end fault → IsReadTo (fault_place fault) text left → EndsText text end left (status_of_line fault)
+ends_at_line text end left (line.BadRay place) ends read = (ends, read)
+ends_at_line text end left (line.BadPoint place) ends read = (ends, read)
+ends_at_line text end left (line.LineTooLong place) ends read = (ends, read)
+ends_at_line text end left (line.TooLong place) ends read = (ends, read)
+ends_at_line text end left (line.RayRange place) ends read = (ends, read)
+ends_at_line text end left (line.PointRange place) ends read = (ends, read)
+
+reads_of : {T : Type 0} (kind : QueryKind) (input : Change) (result : Result T LineStop)
+    → ((text : List ℕ) → input.before ≡ Some text → EndsSo (queries_of kind text).end result) → ((text : List ℕ) → input.before ≡ Some text → HasRead text input.after result)
+    → ReadsLines kind input (status_of_lines result)
+reads_of kind input (Ok done) ends read = λ text told. (ends text told, read text told)
+reads_of kind input (Err (stop.AtLine fault)) ends read = λ text told.
+    let count = read text told in
+    ends_at_line text (queries_of kind text).end input.after fault (ends text told) (record { count = count.0; reached = count.1; behind = count.2 })
+reads_of kind input (Err stop.ReadFault) ends read = λ text told. tt
+reads_of kind input (Err stop.WriteFault) ends read = λ text told. tt
+reads_of kind input (Err (stop.Walk walk.Failed)) ends read = λ text told. tt
+reads_of kind input (Err (stop.Walk (walk.Refused number word))) ends read = λ text told. tt
+reads_of kind input (Err stop.Memory) ends read = λ text told. tt
+
+-- a line is no range of the grid
+pub unbarred_lines : {T : Type 0} (result : Result T LineStop) (fault : RangeFault) → NeedsGrid fault → status_of_lines result ≡ Range fault → ⊥
+unbarred_lines (Ok done) fault needs e = cc
+unbarred_lines (Err (stop.AtLine one)) fault needs e = at_line one needs e
   where
-    to_place : (text : List ℕ) (place : ℕ) → (count : ℕ) × (place ≤ count) × (input.after ≡ Some (drop count text)) → IsReadTo place text input.after
-    to_place text place read = record { count = read.0; reached = read.1; behind = read.2 }
-reads_of input (Err (stop.LineTooLong place)) ends read = λ text told. (ends text told, record { count = (read text told).0; reached = (read text told).1; behind = (read text told).2 })
-reads_of input (Err (stop.TooLong place)) ends read = λ text told. (ends text told, record { count = (read text told).0; reached = (read text told).1; behind = (read text told).2 })
-reads_of input (Err (stop.Range place)) ends read = λ text told. (ends text told, record { count = (read text told).0; reached = (read text told).1; behind = (read text told).2 })
-reads_of input (Err stop.ReadFault) ends read = λ text told. tt
-reads_of input (Err stop.WriteFault) ends read = λ text told. tt
-reads_of input (Err (stop.Walk walk.Failed)) ends read = λ text told. tt
-reads_of input (Err (stop.Walk (walk.Refused number word))) ends read = λ text told. tt
+    at_line : (one : LineFault) → NeedsGrid fault → status_of_line one ≡ Range fault → ⊥
+    at_line (line.BadRay place) needs e = cc
+    at_line (line.BadPoint place) needs e = cc
+    at_line (line.LineTooLong place) needs e = cc
+    at_line (line.TooLong place) needs e = cc
+    at_line (line.RayRange place) needs e = let same : Ray place ≡ fault = cc in subst NeedsGrid (sym same) needs
+    at_line (line.PointRange place) needs e = let same : Point place ≡ fault = cc in subst NeedsGrid (sym same) needs
+unbarred_lines (Err stop.ReadFault) fault needs e = cc
+unbarred_lines (Err stop.WriteFault) fault needs e = cc
+unbarred_lines (Err (stop.Walk walk.Failed)) fault needs e = cc
+unbarred_lines (Err (stop.Walk (walk.Refused number word))) fault needs e = cc
+unbarred_lines (Err stop.Memory) fault needs e = cc
 
--- rays are no range of the grid
-pub unbarred_rays : {T : Type 0} (result : Result T RayStop) (fault : RangeFault) → NeedsGrid fault → status_of_rays result ≡ Range fault → ⊥
-unbarred_rays (Ok done) fault needs e = cc
-unbarred_rays (Err (stop.BadRay place)) fault needs e = cc
-unbarred_rays (Err (stop.LineTooLong place)) fault needs e = cc
-unbarred_rays (Err (stop.TooLong place)) fault needs e = cc
-unbarred_rays (Err (stop.Range place)) fault needs e = let same : Ray place ≡ fault = cc in subst NeedsGrid (sym same) needs
-unbarred_rays (Err stop.ReadFault) fault needs e = cc
-unbarred_rays (Err stop.WriteFault) fault needs e = cc
-unbarred_rays (Err (stop.Walk walk.Failed)) fault needs e = cc
-unbarred_rays (Err (stop.Walk (walk.Refused number word))) fault needs e = cc
+-- for rays no memory is taken
+points_take : (kind : QueryKind) → kind ≡ Points → takes_memory (question.Lines kind) ≡ false → ⊥
+points_take Rays points kept = cc
+points_take Points points kept = cc
 
--- how a question about rays ends
-pub rays_end : {T : Type 0} (input out : Change) (before after : ℕ) (result : Result T RayStop)
-    → ((text : List ℕ) → input.before ≡ Some text → EndsSo (rays_of text).end result) → ((text : List ℕ) → input.before ≡ Some text → HasRead text input.after result)
-    → HasRayCause input.faults_before input.faults_after out.faults_before out.faults_after before after result
-    → Ends question.Cast input out before after (status_of_rays result)
-rays_end input out before after result ends read cause = record {
-  may = may_of result;
-  reads = reads_of input result ends read;
-  read = λ e. read_of result cause e;
-  written = λ e. written_of result cause e;
-  looked = λ e. looked_of result cause e;
-  memory = λ e. absurd (no_memory result e);
-  barred = λ fault needs e. absurd (unbarred_rays result fault needs e);
+pub no_memory : {T : Type 0} (kind : QueryKind) (result : Result T LineStop) → IfErr result (MayStop kind) → takes_memory (question.Lines kind) ≡ false → status_of_lines result ≡ Memory → ⊥
+no_memory kind result may kept = unless_stopped (λ s. s ≡ Memory → ⊥) (λ e. cc) (λ refused place e. cc) (λ fault e. cc) result (λ is e. cc) (λ is e. cc) (λ is e. cc) (λ number word is e. cc)
+    (λ is e. points_take kind (subst (λ r. IfErr r (MayStop kind)) is may) kept)
+
+-- how a question about lines ends
+pub lines_end : {T : Type 0} (kind : QueryKind) (input out : Change) (before after : ℕ) (result : Result T LineStop) → IfErr result (MayStop kind)
+    → ((text : List ℕ) → input.before ≡ Some text → EndsSo (queries_of kind text).end result) → ((text : List ℕ) → input.before ≡ Some text → HasRead text input.after result)
+    → HasLineCause input.faults_before input.faults_after out.faults_before out.faults_after before after result
+    → Ends (question.Lines kind) input out before after (status_of_lines result)
+lines_end {T} kind input out before after result may ends read cause = record {
+  may = may_of result may;
+  reads = reads_of kind input result ends read;
+  read = unless_stopped (λ s. s ≡ Device Read → IsFaulted input) (λ e. absurd cc) (λ refused place e. absurd cc) (λ fault e. absurd cc) result
+      (λ is e. cause.input is) (λ is e. absurd cc) (λ is e. absurd cc) (λ number word is e. absurd cc) (λ is e. absurd cc);
+  written = unless_stopped (λ s. s ≡ Device Write → IsFaulted out) (λ e. absurd cc) (λ refused place e. absurd cc) (λ fault e. absurd cc) result
+      (λ is e. absurd cc) (λ is e. cause.out is) (λ is e. absurd cc) (λ number word is e. absurd cc) (λ is e. absurd cc);
+  looked = unless_stopped (λ s. s ≡ Device Nodes → Rose before after) (λ e. absurd cc) (λ refused place e. absurd cc) (λ fault e. absurd cc) result
+      (λ is e. absurd cc) (λ is e. absurd cc) (λ is e. cause.nodes is) (λ number word is e. absurd cc) (λ is e. absurd cc);
+  memory = λ kept e. absurd (no_memory kind result may kept e);
+  barred = λ fault needs e. absurd (unbarred_lines result fault needs e);
 }
   where
-    may_of : {T : Type 0} (result : Result T RayStop) → MayEnd question.Cast (status_of_rays result)
-    may_of (Ok done) = tt
-    may_of (Err (stop.BadRay place)) = tt
-    may_of (Err (stop.LineTooLong place)) = tt
-    may_of (Err (stop.TooLong place)) = tt
-    may_of (Err (stop.Range place)) = tt
-    may_of (Err stop.ReadFault) = tt
-    may_of (Err stop.WriteFault) = tt
-    may_of (Err (stop.Walk walk.Failed)) = tt
-    may_of (Err (stop.Walk (walk.Refused number word))) = tt
+    may_at : (fault : LineFault) → IsFaultOf kind fault → MayEnd (question.Lines kind) (status_of_line fault)
+    may_at (line.BadRay place) own = own
+    may_at (line.BadPoint place) own = own
+    may_at (line.LineTooLong place) own = tt
+    may_at (line.TooLong place) own = tt
+    may_at (line.RayRange place) own = own
+    may_at (line.PointRange place) own = own
 
-    Cause : {T : Type 0} → Result T RayStop → Type 0
-    Cause result = HasRayCause input.faults_before input.faults_after out.faults_before out.faults_after before after result
-
-    read_of : {T : Type 0} (result : Result T RayStop) → Cause result → status_of_rays result ≡ Device Read → IsFaulted input
-    read_of (Ok done) cause e = absurd cc
-    read_of (Err (stop.BadRay place)) cause e = absurd cc
-    read_of (Err (stop.LineTooLong place)) cause e = absurd cc
-    read_of (Err (stop.TooLong place)) cause e = absurd cc
-    read_of (Err (stop.Range place)) cause e = absurd cc
-    read_of (Err stop.ReadFault) cause e = cause.input refl
-    read_of (Err stop.WriteFault) cause e = absurd cc
-    read_of (Err (stop.Walk walk.Failed)) cause e = absurd cc
-    read_of (Err (stop.Walk (walk.Refused number word))) cause e = absurd cc
-
-    written_of : {T : Type 0} (result : Result T RayStop) → Cause result → status_of_rays result ≡ Device Write → IsFaulted out
-    written_of (Ok done) cause e = absurd cc
-    written_of (Err (stop.BadRay place)) cause e = absurd cc
-    written_of (Err (stop.LineTooLong place)) cause e = absurd cc
-    written_of (Err (stop.TooLong place)) cause e = absurd cc
-    written_of (Err (stop.Range place)) cause e = absurd cc
-    written_of (Err stop.ReadFault) cause e = absurd cc
-    written_of (Err stop.WriteFault) cause e = cause.out refl
-    written_of (Err (stop.Walk walk.Failed)) cause e = absurd cc
-    written_of (Err (stop.Walk (walk.Refused number word))) cause e = absurd cc
-
-    looked_of : {T : Type 0} (result : Result T RayStop) → Cause result → status_of_rays result ≡ Device Nodes → Rose before after
-    looked_of (Ok done) cause e = absurd cc
-    looked_of (Err (stop.BadRay place)) cause e = absurd cc
-    looked_of (Err (stop.LineTooLong place)) cause e = absurd cc
-    looked_of (Err (stop.TooLong place)) cause e = absurd cc
-    looked_of (Err (stop.Range place)) cause e = absurd cc
-    looked_of (Err stop.ReadFault) cause e = absurd cc
-    looked_of (Err stop.WriteFault) cause e = absurd cc
-    looked_of (Err (stop.Walk walk.Failed)) cause e = cause.nodes refl
-    looked_of (Err (stop.Walk (walk.Refused number word))) cause e = absurd cc
-
-    no_memory : {T : Type 0} (result : Result T RayStop) → status_of_rays result ≡ Memory → ⊥
-    no_memory (Ok done) e = cc
-    no_memory (Err (stop.BadRay place)) e = cc
-    no_memory (Err (stop.LineTooLong place)) e = cc
-    no_memory (Err (stop.TooLong place)) e = cc
-    no_memory (Err (stop.Range place)) e = cc
-    no_memory (Err stop.ReadFault) e = cc
-    no_memory (Err stop.WriteFault) e = cc
-    no_memory (Err (stop.Walk walk.Failed)) e = cc
-    no_memory (Err (stop.Walk (walk.Refused number word))) e = cc
+    may_of : (result : Result T LineStop) → IfErr result (MayStop kind) → MayEnd (question.Lines kind) (status_of_lines result)
+    may_of (Ok done) may = tt
+    may_of (Err (stop.AtLine fault)) may = may_at fault may
+    may_of (Err stop.ReadFault) may = tt
+    may_of (Err stop.WriteFault) may = tt
+    may_of (Err (stop.Walk walk.Failed)) may = tt
+    may_of (Err (stop.Walk (walk.Refused number word))) may = tt
+    may_of (Err stop.Memory) may = refl
 
 -- no word is refused where none is
-pub sure_rays : {T : Type 0} (result : Result T RayStop) → RefusesNoWord result → (refusal : NodeRefusal) → status_of_rays result ≡ Refused refusal → ⊥
-sure_rays (Ok done) sure refusal e = cc
-sure_rays (Err (stop.BadRay place)) sure refusal e = cc
-sure_rays (Err (stop.LineTooLong place)) sure refusal e = cc
-sure_rays (Err (stop.TooLong place)) sure refusal e = cc
-sure_rays (Err (stop.Range place)) sure refusal e = cc
-sure_rays (Err stop.ReadFault) sure refusal e = cc
-sure_rays (Err stop.WriteFault) sure refusal e = cc
-sure_rays (Err (stop.Walk walk.Failed)) sure refusal e = cc
-sure_rays (Err (stop.Walk (walk.Refused number word))) sure refusal e = sure
+pub sure_lines : {T : Type 0} (result : Result T LineStop) → RefusesNoWord result → (refusal : NodeRefusal) → status_of_lines result ≡ Refused refusal → ⊥
+sure_lines result sure refusal = unless_stopped (λ s. s ≡ Refused refusal → ⊥) (λ e. cc) (λ refused place e. cc) (λ fault e. cc) result (λ is e. cc) (λ is e. cc) (λ is e. cc)
+    (λ number word is e. subst (λ r. RefusesNoWord r) is sure) (λ is e. cc)
 
 -- ---- accepted words
 
@@ -322,7 +333,7 @@ works_later (question.View camera) format grid cells input out before between af
   front = works.front;
   complete = λ written quiet. works.complete written (later_quiet before between after early late quiet);
 }
-works_later question.Cast format grid cells input out before between after status early late works = record {
+works_later (question.Lines kind) format grid cells input out before between after status early late works = record {
   answered = works.answered;
   complete = λ text told read written quiet. works.complete text told read written (later_quiet before between after early late quiet);
 }
@@ -342,8 +353,12 @@ module _ (out : Change) (before after : ℕ) (unwritten : IsKept out) where
     complete = λ a b. inr (memory a b);
   }
 
-  none_answered : (grid : GridShape) (cells : List Cell) (rays : List RayShape) → PutsSomeAnswers grid cells rays out.before out.after
-  none_answered grid cells rays = record { first = []; later = rays; parts = refl; answers = []; are = refl; front = (0, unwritten.0 ∙ sym (nothing_put out.before)) }
+  none_answered : (grid : GridShape) (cells : List Cell) (queries : List Query) → PutsSomeAnswers grid cells queries out.before out.after
+  none_answered grid cells queries = record { first = []; later = queries; parts = refl; answers = []; are = refl; front = (0, unwritten.0 ∙ sym (nothing_put out.before)) }
+
+  left_out : (kind : QueryKind) (grid : GridShape) (cells : List Cell) (queries : List Query) → LeavesOut kind grid cells queries out
+  left_out Rays grid cells queries = unwritten
+  left_out Points grid cells queries = none_answered grid cells queries
 
   -- of a view nothing is a beginning
   unshown : (camera : CameraShape) (grid : GridShape) (cells : List Cell) (status : Status) → (status ≡ Done → ⊥) → (DidNotRise before after → status ≡ Memory) → Views camera grid cells out before after status
@@ -364,8 +379,8 @@ module _ (out : Change) (before after : ℕ) (unwritten : IsKept out) where
   works_failed question.Lift format grid cells input unread rose = unanswered _ (Device Nodes) (λ e. cc) (λ a quiet. absurd (clash before after rose quiet))
   works_failed (question.Slice axis at) format grid cells input unread rose = unanswered _ (Device Nodes) (λ e. cc) (λ a quiet. absurd (clash before after rose quiet))
   works_failed (question.View camera) format grid cells input unread rose = unshown camera grid cells (Device Nodes) (λ e. cc) (λ quiet. absurd (clash before after rose quiet))
-  works_failed question.Cast format grid cells input unread rose = record {
-    answered = λ text told. none_answered grid cells (rays_of text).rays;
+  works_failed (question.Lines kind) format grid cells input unread rose = record {
+    answered = λ text told. none_answered grid cells (queries_of kind text).queries;
     complete = λ text told a b quiet. absurd (clash before after rose quiet);
   }
 
@@ -376,7 +391,7 @@ module _ (out : Change) (before after : ℕ) (unwritten : IsKept out) where
   works_memory question.Lift format grid cells input unread = unanswered _ Memory (λ e. cc) (λ a b. refl)
   works_memory (question.Slice axis at) format grid cells input unread = unanswered _ Memory (λ e. cc) (λ a b. refl)
   works_memory (question.View camera) format grid cells input unread = unshown camera grid cells Memory (λ e. cc) (λ quiet. refl)
-  works_memory question.Cast format grid cells input unread = record { answered = λ text told. unwritten; complete = λ text told a b c. inr refl }
+  works_memory (question.Lines kind) format grid cells input unread = record { answered = λ text told. left_out kind grid cells (queries_of kind text).queries; complete = λ text told a b c. inr refl }
 
 -- ---- a file that was not admitted
 
@@ -442,6 +457,7 @@ module _ (question : Question) (file : FileView) (framed : IsFileView file) (inp
       early BadSlice needs after = after
       early BadView needs after = needs
       early (Ray place) needs after = needs
+      early (Point place) needs after = needs
 
       one_fault : (other : RangeFault) → Some fault ≡ Some other → fault ≡ other
       one_fault other same = cc

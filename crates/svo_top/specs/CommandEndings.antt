@@ -1,12 +1,13 @@
 -- What carrying out a command does, whatever the words were.
-use Rattle.std.specs.Prelude.{◌≡◌, ◌≢◌, ◌⊎◌, ℕ, List, Option, None, Some, Ok}
+use Rattle.std.specs.Prelude.{◌≡◌, ◌≢◌, ◌⊎◌, ℕ, false, List, Option, None, Some, Ok}
 use Rattle.std.specs.Result.{result_err}
 use Rattle.dev_traits.specs.Change.{Change, ScratchChange, StoreChange, IsFaulted, IsKept, IsScratchKept}
 use Rattle.svo_words.specs.declared.commands.Command.{Command}
-use Rattle.svo_words.specs.declared.commands.Command.TheVariants.{Build, Why, Check, Has, Cells, Lift, Cast, Slice, View, Make, Sum}
-use Rattle.svo_top.specs.FileQuestion.{Asks, IsLate, CastsRays}
+use Rattle.svo_words.specs.declared.commands.Command.TheVariants.{Build, Why, Check, Has, Cells, Lift, Cast, Slice, View, Make, Sum, Near}
+use Rattle.ray_answers.specs.declared.queries.QueryKind.TheVariants.{Rays, Points}
+use Rattle.svo_top.specs.FileQuestion.{Asks, IsLate, MayRefuse, takes_memory as takes_memory_to_ask}
 use Rattle.svo_top.specs.Build.{BuildMeans, IsUntouched}
-use Rattle.svo_top.specs.Commands.{NamesNodes, ReadsInput, MayBeLate}
+use Rattle.svo_top.specs.Commands.{NamesNodes, ReadsInput, MayBeLate, takes_memory}
 use Rattle.svo_top.specs.Endings.{status_of, EndsBuild, EndsWhy, EndsQuietly}
 use Rattle.slice_view.specs.Cameras.{CameraShape}
 use Rattle.svo_words.specs.declared.pictures.ViewWords.{ViewWords}
@@ -43,19 +44,21 @@ CarriesOut (Check words) input out scratch nodes ending = CarriesOutQuestion que
 CarriesOut (Has words) input out scratch nodes ending = CarriesOutQuestion (question.Has words.code) words.nodes None input out nodes ending × IsScratchKept scratch
 CarriesOut (Cells words) input out scratch nodes ending = CarriesOutQuestion question.Cells words.nodes (range_of_keep words.keep) input out nodes ending × IsScratchKept scratch
 CarriesOut (Lift words) input out scratch nodes ending = CarriesOutQuestion question.Lift words.nodes None input out nodes ending × IsScratchKept scratch
-CarriesOut (Cast words) input out scratch nodes ending = CarriesOutQuestion question.Cast words.nodes (range_of_keep words.keep) input out nodes ending × IsScratchKept scratch
+CarriesOut (Cast words) input out scratch nodes ending = CarriesOutQuestion (question.Lines Rays) words.nodes (range_of_keep words.keep) input out nodes ending × IsScratchKept scratch
+CarriesOut (Near words) input out scratch nodes ending = CarriesOutQuestion (question.Lines Points) words.nodes (range_of_keep words.keep) input out nodes ending × IsScratchKept scratch
 CarriesOut (Slice words) input out scratch nodes ending = CarriesOutQuestion (question.Slice (axis_from words.axis) words.at) words.nodes (range_of_keep words.keep) input out nodes ending × IsScratchKept scratch
 CarriesOut (View words) input out scratch nodes ending = CarriesOutView words input out nodes ending × IsScratchKept scratch
 CarriesOut (Make words) input out scratch nodes ending = EndsWhy ending × MakeMeans words out (status_of ending) × IsKept input × IsScratchKept scratch × IsKept nodes
 CarriesOut (Sum words) input out scratch nodes ending = EndsSum ending × SumMeans words out scratch (status_of ending) × IsKept input × IsKept nodes
 
--- what is the same for all: the range that a number is out of is named, and then nothing is touched; nothing is read, put out or kept where memory runs out; and which commands may end so
+-- what is the same for all: the range that a number is out of is named, and then nothing is touched; nothing is read or put out where memory runs out that is not taken meanwhile, and nothing kept; and which commands may end so
 pub record Stops (command : Command) (input out : Change) (scratch : ScratchChange) (nodes : StoreChange) (status : Status) : Type 0 where
   pub usage : (kind : UsageKind) → status ≢ Usage kind
   pub comes : (fault : RangeFault) → range_of command ≡ Some fault → status ≡ Range fault
   pub only : (fault : RangeFault) → status ≡ Range fault → (range_of command ≡ Some fault) ⊎ MayBeLate command fault
   pub unmoved : (fault : RangeFault) → range_of command ≡ Some fault → IsUntouched input out scratch × IsKept nodes
-  pub memory : status ≡ Memory → IsUntouched input out scratch
+  pub memory : takes_memory command ≡ false → status ≡ Memory → IsUntouched input out scratch
+  pub unspilled : status ≡ Memory → IsScratchKept scratch
   pub refused : (refusal : NodeRefusal) → status ≡ Refused refusal → NamesNodes command
   pub reads : (kind : InputKind) (place : ℕ) → status ≡ Input kind place → ReadsInput command
 
@@ -65,8 +68,8 @@ pub record StopsQuestion (question : Question) (range : Option RangeFault) (inpu
   pub comes : (fault : RangeFault) → range ≡ Some fault → status ≡ Range fault
   pub only : (fault : RangeFault) → status ≡ Range fault → (range ≡ Some fault) ⊎ IsLate question fault
   pub unmoved : (fault : RangeFault) → range ≡ Some fault → IsKept input × IsKept out × IsKept nodes
-  pub memory : status ≡ Memory → IsKept input × IsKept out
-  pub reads : (kind : InputKind) (place : ℕ) → status ≡ Input kind place → CastsRays question
+  pub memory : takes_memory_to_ask question ≡ false → status ≡ Memory → IsKept input × IsKept out
+  pub reads : (kind : InputKind) (place : ℕ) → status ≡ Input kind place → MayRefuse question kind
 
 -- the same of a view
 pub record StopsView (words : ViewWords) (input out : Change) (nodes : StoreChange) (status : Status) : Type 0 where

@@ -2,7 +2,8 @@
 use Rattle.std.specs.Prelude.{◌≡◌, ℕ, List, Option, None, Ok}
 use Rattle.dev_traits.specs.Change.{Change, ScratchChange, StoreChange, IsKept, IsScratchKept}
 use Rattle.svo_words.specs.declared.commands.Command.{Command}
-use Rattle.svo_words.specs.declared.commands.Command.TheVariants.{Build, Why, Check, Has, Cells, Lift, Cast, Slice, View, Make, Sum}
+use Rattle.svo_words.specs.declared.commands.Command.TheVariants.{Build, Why, Check, Has, Cells, Lift, Cast, Slice, View, Make, Sum, Near}
+use Rattle.ray_answers.specs.declared.queries.QueryKind.TheVariants.{Rays, Points}
 use Rattle.svo_top.specs.FileQuestion.{Asks}
 use Rattle.svo_top.specs.Build.{BuildRun, IsUntouched}
 use Rattle.slice_view.specs.Cameras.{CameraShape}
@@ -44,7 +45,8 @@ Does (Check words) input out scratch nodes err status = QuestionRun question.Che
 Does (Has words) input out scratch nodes err status = QuestionRun (question.Has words.code) words.nodes None input out scratch nodes err status
 Does (Cells words) input out scratch nodes err status = QuestionRun question.Cells words.nodes (range_of_keep words.keep) input out scratch nodes err status
 Does (Lift words) input out scratch nodes err status = QuestionRun question.Lift words.nodes None input out scratch nodes err status
-Does (Cast words) input out scratch nodes err status = QuestionRun question.Cast words.nodes (range_of_keep words.keep) input out scratch nodes err status
+Does (Cast words) input out scratch nodes err status = QuestionRun (question.Lines Rays) words.nodes (range_of_keep words.keep) input out scratch nodes err status
+Does (Near words) input out scratch nodes err status = QuestionRun (question.Lines Points) words.nodes (range_of_keep words.keep) input out scratch nodes err status
 Does (Slice words) input out scratch nodes err status = QuestionRun (question.Slice (axis_from words.axis) words.at) words.nodes (range_of_keep words.keep) input out scratch nodes err status
 Does (View words) input out scratch nodes err status = ViewRun words input out scratch nodes err status
 Does (Make words) input out scratch nodes err status = MakeRun words input out scratch err status × IsKept nodes

@@ -1,5 +1,5 @@
 -- Which question about a node file a command asks.
-use Rattle.std.specs.Prelude.{Option, None, Some, IsSome, IsSomeAnd, ⊤}
+use Rattle.std.specs.Prelude.{Bool, true, false, Option, None, Some, IsSome, IsSomeAnd, ⊤}
 use Rattle.svo_words.specs.declared.commands.Command.{Command}
 use Rattle.svo_words.specs.declared.commands.Command.TheVariants as command
 use Rattle.std.specs.Option.{option_map}
@@ -8,7 +8,8 @@ use Rattle.svo_top.specs.FileQuestion.{IsLate}
 use Rattle.svo_top.specs.Picturing.{axis_from, camera_of}
 use Rattle.svo_top.specs.Ranges.{range_of_keep}
 use Rattle.svo_top.specs.declared.file_question.Question.{Question}
-use Rattle.svo_top.specs.declared.file_question.Question.TheVariants.{Check, Has, Cells, Lift, Cast, Slice, View}
+use Rattle.ray_answers.specs.declared.queries.QueryKind.TheVariants.{Rays, Points}
+use Rattle.svo_top.specs.declared.file_question.Question.TheVariants.{Check, Has, Cells, Lift, Lines, Slice, View}
 use Rattle.svo_top.specs.declared.outcome.RangeFault.{RangeFault}
 
 abbrev pub question_of : Command → Option Question
@@ -20,7 +21,8 @@ question_of (command.Check words) = Some Check
 question_of (command.Has words) = Some (Has words.code)
 question_of (command.Cells words) = Some Cells
 question_of (command.Lift words) = Some Lift
-question_of (command.Cast words) = Some Cast
+question_of (command.Cast words) = Some (Lines Rays)
+question_of (command.Near words) = Some (Lines Points)
 question_of (command.Slice words) = Some (Slice (axis_from words.axis) words.at)
 question_of (command.View words) = option_map View (result_ok (camera_of (range_of_keep words.keep) words))
 
@@ -32,7 +34,13 @@ NamesNodes command = IsSome (question_of command)
 abbrev pub ReadsInput : Command → Type 0
 ReadsInput (command.Build words) = ⊤
 ReadsInput (command.Cast words) = ⊤
+ReadsInput (command.Near words) = ⊤
 ReadsInput command = ⊥
+
+-- memory may run out while it reads the input and puts out answers
+abbrev pub takes_memory : Command → Bool
+takes_memory (command.Near words) = true
+takes_memory command = false
 
 -- a number of its may be out of this range, which is tested once the file is loaded
 abbrev pub MayBeLate : Command → RangeFault → Type 0

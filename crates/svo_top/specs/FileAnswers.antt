@@ -10,7 +10,7 @@ use Rattle.svo_top.specs.declared.outcome.RangeFault.{RangeFault}
 use Rattle.svo_top.specs.declared.outcome.RangeFault.TheVariants.{Code, Slice as BadSlice}
 use Rattle.svo_top.specs.Picturing.{is_layer}
 use Rattle.svo_top.specs.declared.file_question.Question.{Question}
-use Rattle.svo_top.specs.declared.file_question.Question.TheVariants.{Check, Has, Cells, Lift, Cast, Slice, View}
+use Rattle.svo_top.specs.declared.file_question.Question.TheVariants.{Check, Has, Cells, Lift, Lines, Slice, View}
 
 -- ---- what needs the file's grid
 
@@ -24,7 +24,7 @@ bar Check depth = None
 bar (Has code) depth = if is_code code depth then None else Some Code
 bar Cells depth = None
 bar Lift depth = None
-bar Cast depth = None
+bar (Lines kind) depth = None
 bar (Slice axis at) depth = if is_layer at depth then None else Some BadSlice
 bar (View camera) depth = None
 

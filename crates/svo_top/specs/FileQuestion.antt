@@ -13,17 +13,21 @@ use Rattle.cell_lists.specs.Lists.{cells_text}
 use Rattle.svo_top.specs.FileAnswers.{bar, check_line, has_line}
 use Rattle.slice_view.specs.Slices.{slice_picture}
 use Rattle.svo_top.specs.Picturing.{Views}
-use Rattle.svo_top.specs.Rays.{Casts, ReadsRays}
+use Rattle.ray_answers.specs.declared.queries.QueryKind.{QueryKind}
+use Rattle.ray_answers.specs.declared.queries.QueryKind.TheVariants.{Rays, Points}
+use Rattle.svo_top.specs.InputLines.{AnswersInput, ReadsLines}
+use Rattle.svo_top.specs.declared.outcome.InputKind.{InputKind}
+use Rattle.svo_top.specs.declared.outcome.InputKind.TheVariants.{BadRay, BadPoint, LineTooLong, TooLong}
 use Rattle.svo_top.specs.NodeFiles.{Tells, IsRefusedFor, Keeps, KeepsCells, refused_of}
 use Rattle.svo_top.specs.declared.outcome.Status.{Status}
 use Rattle.svo_top.specs.declared.outcome.Status.TheVariants.{Done, Usage, Input, Range, Device, Refused, Memory}
 use Rattle.svo_top.specs.declared.outcome.RangeFault.{RangeFault}
-use Rattle.svo_top.specs.declared.outcome.RangeFault.TheVariants.{Decimals, Grid, TooLarge, TooSmall, Triangle, Cube, Keep, Code, Made, Slice as BadSlice, View as BadView, Ray}
+use Rattle.svo_top.specs.declared.outcome.RangeFault.TheVariants.{Decimals, Grid, TooLarge, TooSmall, Triangle, Cube, Keep, Code, Made, Slice as BadSlice, View as BadView, Ray, Point}
 use Rattle.svo_top.specs.declared.outcome.NodeRefusal.{NodeRefusal}
 use Rattle.svo_top.specs.declared.outcome.NodeRefusal.TheVariants.{Number}
 use Rattle.svo_top.specs.declared.outcome.Device.TheVariants.{Read, Scratch, Write, Nodes}
 use Rattle.svo_top.specs.declared.file_question.Question.{Question}
-use Rattle.svo_top.specs.declared.file_question.Question.TheVariants.{Check, Has, Cells, Lift, Cast, Slice, View}
+use Rattle.svo_top.specs.declared.file_question.Question.TheVariants.{Check, Has, Cells, Lift, Lines, Slice, View}
 
 -- ---- the work over a node file
 
@@ -39,26 +43,27 @@ Works Check format grid cells input out before after status = Answers (check_lin
 Works (Has code) format grid cells input out before after status = Answers (has_line (is_some (face_at cells (unsigned_abs code)))) out before after status
 Works Cells format grid cells input out before after status = Answers (cells_text cells) out before after status
 Works Lift format grid cells input out before after status = Answers (image_of 2 grid cells) out before after status
-Works Cast format grid cells input out before after status = Casts grid cells input out before after status
+Works (Lines kind) format grid cells input out before after status = AnswersInput kind grid cells input out before after status
 Works (Slice axis at) format grid cells input out before after status = Answers (slice_picture grid.depth axis (unsigned_abs at) cells) out before after status
 Works (View camera) format grid cells input out before after status = Views camera grid cells out before after status
 
 -- ---- how a question may end, whatever the file
 
--- the input is read by rays alone
+-- the input is read as rays or points alone
 abbrev pub Reads : Question → Change → Status → Type 0
 Reads Check input status = IsKept input
 Reads (Has code) input status = IsKept input
 Reads Cells input status = IsKept input
 Reads Lift input status = IsKept input
-Reads Cast input status = ReadsRays input status
+Reads (Lines kind) input status = ReadsLines kind input status
 Reads (Slice axis at) input status = IsKept input
 Reads (View camera) input status = IsKept input
 
 -- a range that is tested once the file is loaded
 abbrev pub IsLate : Question → RangeFault → Type 0
 IsLate (Has code) Code = ⊤
-IsLate Cast (Ray place) = ⊤
+IsLate (Lines kind) (Ray place) = kind ≡ Rays
+IsLate (Lines kind) (Point place) = kind ≡ Points
 IsLate (Slice axis at) BadSlice = ⊤
 IsLate question fault = ⊥
 
@@ -68,9 +73,28 @@ NeedsGrid Code = ⊤
 NeedsGrid BadSlice = ⊤
 NeedsGrid fault = ⊥
 
-abbrev pub CastsRays : Question → Type 0
-CastsRays Cast = ⊤
-CastsRays question = ⊥
+abbrev pub ReadsInput : Question → Type 0
+ReadsInput (Lines kind) = ⊤
+ReadsInput question = ⊥
+
+-- the input may be refused so: a bad ray is one of rays, and a bad point one of points
+abbrev pub MayRefuse : Question → InputKind → Type 0
+MayRefuse (Lines kind) BadRay = kind ≡ Rays
+MayRefuse (Lines kind) BadPoint = kind ≡ Points
+MayRefuse (Lines kind) LineTooLong = ⊤
+MayRefuse (Lines kind) TooLong = ⊤
+MayRefuse question refused = ⊥
+
+-- memory is taken while the question is answered, for the search of nearest cells; all others take it before they read or put out anything
+abbrev pub takes_memory : Question → Bool
+takes_memory (Lines Points) = true
+takes_memory (Lines Rays) = false
+takes_memory Check = false
+takes_memory (Has code) = false
+takes_memory Cells = false
+takes_memory Lift = false
+takes_memory (Slice axis at) = false
+takes_memory (View camera) = false
 
 -- the words of the file are read by blocks that are kept, for which there may be no memory
 abbrev pub keeps_blocks : Question → Bool
@@ -78,30 +102,30 @@ keeps_blocks Check = false
 keeps_blocks (Has code) = false
 keeps_blocks Cells = true
 keeps_blocks Lift = false
-keeps_blocks Cast = true
+keeps_blocks (Lines kind) = true
 keeps_blocks (Slice axis at) = true
 keeps_blocks (View camera) = true
 
 abbrev pub MayEnd : Question → Status → Type 0
 MayEnd question Done = ⊤
 MayEnd question (Usage kind) = ⊥
-MayEnd question (Input kind place) = CastsRays question
+MayEnd question (Input refused place) = MayRefuse question refused
 MayEnd question (Range fault) = IsLate question fault
-MayEnd question (Device Read) = CastsRays question
+MayEnd question (Device Read) = ReadsInput question
 MayEnd question (Device Scratch) = ⊥
 MayEnd question (Device Write) = ⊤
 MayEnd question (Device Nodes) = ⊤
 MayEnd question (Refused refusal) = ⊤
 MayEnd question Memory = keeps_blocks question ≡ true
 
--- a question ends so; a device is named only where its count of faults rose; where memory runs out nothing was read or put out, nor was anything put out where a number is out of the file's grid
+-- a question ends so; a device is named only where its count of faults rose; where memory runs out that is not taken while it is answered, nothing was read or put out, nor was anything put out where a number is out of the file's grid
 pub record Ends (question : Question) (input out : Change) (before after : ℕ) (status : Status) : Type 0 where
   pub may : MayEnd question status
   pub reads : Reads question input status
   pub read : status ≡ Device Read → IsFaulted input
   pub written : status ≡ Device Write → IsFaulted out
   pub looked : status ≡ Device Nodes → Rose before after
-  pub memory : status ≡ Memory → IsKept input × IsKept out
+  pub memory : takes_memory question ≡ false → status ≡ Memory → IsKept input × IsKept out
   pub barred : (fault : RangeFault) → NeedsGrid fault → status ≡ Range fault → IsKept out
 
 -- an ending that comes only once the file was accepted and no number was out of its grid
@@ -110,6 +134,7 @@ ComesAfterFile Done = ⊤
 ComesAfterFile (Usage kind) = ⊥
 ComesAfterFile (Input kind place) = ⊤
 ComesAfterFile (Range (Ray place)) = ⊤
+ComesAfterFile (Range (Point place)) = ⊤
 ComesAfterFile (Range fault) = ⊥
 ComesAfterFile (Device Read) = ⊤
 ComesAfterFile (Device Scratch) = ⊥

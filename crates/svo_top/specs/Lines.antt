@@ -11,9 +11,9 @@ use Rattle.svo_top.specs.declared.outcome.Status.TheVariants.{Done, Usage, Input
 use Rattle.svo_top.specs.declared.outcome.UsageKind.{UsageKind}
 use Rattle.svo_top.specs.declared.outcome.UsageKind.TheVariants.{Command, Options, Value}
 use Rattle.svo_top.specs.declared.outcome.InputKind.{InputKind}
-use Rattle.svo_top.specs.declared.outcome.InputKind.TheVariants.{Ply, BadRay, LineTooLong, TooLong}
+use Rattle.svo_top.specs.declared.outcome.InputKind.TheVariants.{Ply, BadRay, BadPoint, LineTooLong, TooLong}
 use Rattle.svo_top.specs.declared.outcome.RangeFault.{RangeFault}
-use Rattle.svo_top.specs.declared.outcome.RangeFault.TheVariants.{Decimals, Grid, TooLarge, TooSmall, Triangle, Cube, Keep, Code, Made, Slice, View, Ray}
+use Rattle.svo_top.specs.declared.outcome.RangeFault.TheVariants.{Decimals, Grid, TooLarge, TooSmall, Triangle, Cube, Keep, Code, Made, Slice, View, Ray, Point}
 use Rattle.svo_top.specs.declared.outcome.Device.{Device as DeviceName}
 use Rattle.svo_top.specs.declared.outcome.Device.TheVariants.{Read, Scratch, Write, Nodes}
 use Rattle.svo_top.specs.declared.outcome.NodeRefusal.{NodeRefusal}
@@ -47,6 +47,7 @@ ply_word kind.TooLong = codes "TooLong"
 abbrev pub input_word : InputKind → List ℕ
 input_word (Ply kind) = ply_word kind
 input_word BadRay = codes "BadRay"
+input_word BadPoint = codes "BadPoint"
 input_word LineTooLong = codes "LineTooLong"
 input_word TooLong = codes "TooLong"
 
@@ -69,6 +70,7 @@ range_word Made = codes "made"
 range_word Slice = codes "slice"
 range_word View = codes "view"
 range_word (Ray place) = codes "ray at " ++ decimal place
+range_word (Point place) = codes "point at " ++ decimal place
 
 abbrev pub device_word : DeviceName → List ℕ
 device_word Read = codes "read"

@@ -10,6 +10,7 @@ use crate::outcome::{Device, NodeRefusal, Status};
 use block_cache::{BlockCache, Blocks};
 use dev_traits::{ByteSink, ByteSource, NodeStore};
 use node_file::{Frame, LoadFault, Nodes};
+use ray_answers::QueryKind;
 use slice_view::{Axis, Camera};
 use std::alloc::Global;
 use std::marker::Brand;
@@ -28,8 +29,8 @@ pub enum Question {
     Cells,
     /// What the file of format 2 of its cells is.
     Lift,
-    /// Which of its cells each ray of the input hits first.
-    Cast,
+    /// Which of its cells each ray of the input hits first, or is nearest to each point of it.
+    Lines(QueryKind),
     /// The picture of its layer across an axis at a place.
     Slice(Axis, i64),
     /// The picture that a camera takes of its cells.
@@ -42,7 +43,9 @@ impl Question {
         ensures { result ≡ keeps_blocks self.now }
     {
         match self {
-            Question::Cells | Question::Cast | Question::Slice(..) | Question::View(_) => true,
+            Question::Cells | Question::Lines(_) | Question::Slice(..) | Question::View(_) => {
+                true
+            }
             Question::Check | Question::Has(_) | Question::Lift => false,
         }
     }
@@ -104,14 +107,14 @@ fn ask_counted<I: ByteSource, O: ByteSink, N: NodeStore, L: Ledger>(
         return status;
     }
     if !question.keeps_blocks() {
-        return answer(question, input, out, &mut nodes, &mut reads);
+        return answer(keeping.alloc, question, input, out, &mut nodes, &mut reads);
     }
     let mut cache = match BlockCache::make(keeping.alloc, keeping.blocks) {
         Err(_) => return Status::Memory,
         Ok(cache) => cache,
     };
     let mut blocks = Blocks::new(nodes, &mut cache);
-    answer(question, input, out, &mut blocks, &mut reads)
+    answer(keeping.alloc, question, input, out, &mut blocks, &mut reads)
 }
 
 /// How a run ends that cannot load a file.

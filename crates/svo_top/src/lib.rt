@@ -2,11 +2,11 @@
 #![tactic(auto)]
 
 mod building;
-mod casting;
 mod checking;
 mod explaining;
 mod file_commands;
 mod file_question;
+mod input_lines;
 mod jobs;
 mod laws;
 mod lifting;

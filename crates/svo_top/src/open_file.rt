@@ -1,12 +1,12 @@
 //! A question about a loaded file.
 
-ghost use Rattle.std.specs.Prelude.{◌≡◌, ◌≢◌, ◌≤◌, ◌<◌, ◌&&◌, ◌^◌, ℤ, pos, int_le, nat_lt, unsigned_abs, List, None, IfSome};
+ghost use Rattle.std.specs.Prelude.{◌≡◌, ◌≢◌, ◌≤◌, ◌<◌, ◌&&◌, ◌^◌, ℤ, pos, int_le, nat_lt, unsigned_abs, List, None, false, IfSome};
 ghost use Rattle.dev_traits.specs.Change.{change_of};
 ghost use Rattle.octree_specs.specs.Cells.{Cell};
 ghost use Rattle.svo_base.specs.declared.grids.TheConstants.{MAX_DEPTH};
 ghost use Rattle.node_file.specs.FileView.{IsFileView};
 ghost use Rattle.svo_top.specs.FileAnswers.{bar, is_code};
-ghost use Rattle.svo_top.specs.FileQuestion.{Ends, Works, IsLate, NeedsGrid, Admits};
+ghost use Rattle.svo_top.specs.FileQuestion.{Ends, Works, IsLate, NeedsGrid, Admits, takes_memory};
 ghost use Rattle.svo_top.specs.Picturing.{is_layer};
 ghost use Rattle.svo_top.specs.Loaded.{status_of_answer};
 ghost use Rattle.svo_top.specs.NodeFiles.{KeepsCells};
@@ -14,9 +14,9 @@ ghost use Rattle.svo_top.specs.declared.outcome.Status.TheVariants.{Memory, Rang
 ghost use Rattle.svo_top.specs.declared.outcome.RangeFault.{RangeFault};
 ghost use Rattle.svo_top.specs.declared.outcome.NodeRefusal.{NodeRefusal};
 
-use crate::casting::status_of_rays;
 use crate::checking::tell_numbers;
 use crate::file_question::Question;
+use crate::input_lines::status_of_lines;
 use crate::lifting::put_lifted;
 use crate::membership::tell_membership;
 use crate::outcome::{Device, NodeRefusal, RangeFault, Status};
@@ -24,8 +24,9 @@ use cell_lists::list_cells;
 use dev_traits::{ByteSink, ByteSource};
 use node_check::{AnswerStop, CheckFault, WalkFault, check};
 use node_file::Records;
-use ray_answers::answer_rays;
+use ray_answers::answer_text;
 use slice_view::{slice, view};
+use std::alloc::Global;
 use std::sync::ledger::Ledger;
 use svo_base::Steps;
 
@@ -77,8 +78,11 @@ fn bar(question: &Question, depth: u32) -> Option<RangeFault>
                 Some(RangeFault::Slice)
             }
         }
-        Question::Check | Question::Cells | Question::Lift | Question::Cast | Question::View(_) =>
-            None,
+        Question::Check
+        | Question::Cells
+        | Question::Lift
+        | Question::Lines(_)
+        | Question::View(_) => None,
     }
 }
 
@@ -131,6 +135,7 @@ fn cell_count(depth: u32) -> u64
 
 /// The work of a question over a file that was checked.
 pub fn answer<I: ByteSource, O: ByteSink, R: Records, L: Ledger>(
+    alloc: Global,
     question: &Question,
     input: &mut I,
     out: &mut O,
@@ -148,7 +153,7 @@ pub fn answer<I: ByteSource, O: ByteSink, R: Records, L: Ledger>(
         (change_of I.rest I.faults input.old input.new)
         (change_of O.written O.faults out.old out.new)
         (R.faults nodes.old) (R.faults nodes.new) result }
-    ensures remembered { result ≢ Memory }
+    ensures remembered { takes_memory question.now ≡ false → result ≢ Memory }
     ensures unbarred { (fault : RangeFault) → NeedsGrid fault → result ≡ Range fault → ⊥ }
     ensures later { R.faults nodes.old ≤ R.faults nodes.new }
     ensures lender { R.lender nodes.new ≡ R.lender nodes.old }
@@ -160,7 +165,9 @@ pub fn answer<I: ByteSource, O: ByteSink, R: Records, L: Ledger>(
         }
         Question::Cells => status_of_answer(list_cells(nodes, out, reads)),
         Question::Lift => status_of_answer(put_lifted(nodes, out, reads)),
-        Question::Cast => status_of_rays(answer_rays(nodes, input, out, reads)),
+        Question::Lines(kind) => {
+            status_of_lines(answer_text(alloc, *kind, nodes, input, out, reads))
+        }
         Question::Slice(axis, at) => {
             status_of_answer(slice(nodes, *axis, place(at), out, reads))
         }

@@ -43,9 +43,11 @@ pub enum InputKind {
     Ply(PlyKind),
     /// A line of the text of rays is not six numbers.
     BadRay,
-    /// A line of the text of rays has more than 1024 bytes.
+    /// A line of the text of points is not three numbers.
+    BadPoint,
+    /// A line of the text of rays or points has more than 1024 bytes.
     LineTooLong,
-    /// The text of rays has more than 2^62 bytes.
+    /// The text of rays or points has more than 2^62 bytes.
     TooLong,
 }
 
@@ -76,6 +78,8 @@ pub enum RangeFault {
     View,
     /// A ray is out of its limits. The place is the number of bytes before its line.
     Ray(u64),
+    /// A point is out of its limits. The place is the number of bytes before its line.
+    Point(u64),
 }
 
 /// Which device failed.

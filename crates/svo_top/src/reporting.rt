@@ -157,6 +157,7 @@ fn input_word(kind: InputKind) -> &'static str
     match kind {
         InputKind::Ply(kind) => ply_word(kind),
         InputKind::BadRay => "BadRay",
+        InputKind::BadPoint => "BadPoint",
         InputKind::LineTooLong => "LineTooLong",
         InputKind::TooLong => "TooLong",
     }
@@ -210,6 +211,10 @@ fn range_line(fault: RangeFault) -> Line
         RangeFault::View => line.push_str("view"),
         RangeFault::Ray(place) => {
             line.push_str("ray at ");
+            push_number(&mut line, place);
+        }
+        RangeFault::Point(place) => {
+            line.push_str("point at ");
             push_number(&mut line, place);
         }
     }

@@ -19,6 +19,7 @@ use crate::picturing::{axis_from, show_view};
 use crate::reporting::{Ending, report};
 use crate::summing::sum;
 use dev_traits::{ByteSink, ByteSource, NodeStore, Scratch};
+use ray_answers::QueryKind;
 use std::alloc::Global;
 use svo_base::Words;
 use svo_words::{Command, WordFault, read_words};
@@ -30,7 +31,8 @@ use svo_words::{Command, WordFault, read_words};
 /// them, or one that a node file or the input bounds, is out of range. `Input`: the input was refused.
 /// `Refused`: the named file is no node file. `Device`: a device failed. `Memory`: memory ran out while
 /// the words were read, the room of a build was made, or the table of the blocks of a file that are
-/// kept, once the file was accepted; then nothing was read, put out or kept.
+/// kept, once the file was accepted; then nothing was read, put out or kept. In a search of the cells
+/// nearest to points it may run out at each of them, once the answers to those before were put out.
 ///
 /// The scratch was not started yet.
 pub fn run<I: ByteSource, O: ByteSink, E: ByteSink, S: Scratch, N: NodeStore>(
@@ -167,7 +169,12 @@ fn carry_out_command<I: ByteSource, O: ByteSink, S: Scratch, N: NodeStore>(
         }
         Command::Cast(words) => {
             let keep = keep_from(alloc, words.keep);
-            let question = Question::Cast;
+            let question = Question::Lines(QueryKind::Rays);
+            carry_out_question(keep, &words.nodes, &question, input, out, nodes)
+        }
+        Command::Near(words) => {
+            let keep = keep_from(alloc, words.keep);
+            let question = Question::Lines(QueryKind::Points);
             carry_out_question(keep, &words.nodes, &question, input, out, nodes)
         }
         Command::Slice(words) => {

@@ -1,5 +1,5 @@
 -- Each question's answer.
-use Rattle.std.proofs.Common.{ℕ, ◌^◌, ◌<◌, ◌≤◌, List, None, ◌≡◌, ◌∙◌, unsigned_abs, sym, subst, rules, arith, lit<}
+use Rattle.std.proofs.Common.{ℕ, ◌^◌, ◌<◌, ◌≤◌, List, None, false, ◌≡◌, ◌∙◌, unsigned_abs, sym, subst, rules, arith, lit<}
 use Rattle.std.proofs.Math.Nat.{pow-le-pow_right}
 use Rattle.std.specs.Prelude.{is_some}
 use Rattle.dev_traits.specs.Change.{change_of}
@@ -8,15 +8,15 @@ use Rattle.node_check.specs.Stops.{Puts}
 use Rattle.svo_top.specs.FileAnswers.{bar, has_line}
 use Rattle.octree_specs.specs.OctreeFile.{image_of}
 use Rattle.cell_lists.specs.Lists.{cells_text}
-use Rattle.svo_top.specs.Rays.{Casts}
-use Rattle.svo_top.specs.FileQuestion.{Works, Answers, Ends}
+use Rattle.svo_top.specs.InputLines.{AnswersInput}
+use Rattle.svo_top.specs.FileQuestion.{Works, Answers, Ends, takes_memory}
 use Rattle.svo_top.specs.Loaded.{status_of_answer}
 use Rattle.svo_top.specs.declared.file_question.Question.{Question}
 use Rattle.svo_top.specs.declared.file_question.Question.TheVariants as question
 use Rattle.svo_top.specs.declared.outcome.Status.{Status}
 use Rattle.slice_view.specs.Slices.{slice_picture}
 use Rattle.svo_top.specs.Picturing.{Views}
-use Rattle.svo_top.proofs.OpenFileAnswers.{layer_below, views_of, sure_of_view, answers_of, sure_of, kept_told, casts_of, sure_rays, rays_end, unbarred_rays}
+use Rattle.svo_top.proofs.OpenFileAnswers.{layer_below, views_of, sure_of_view, answers_of, sure_of, kept_told, answers_input, sure_lines, lines_end, no_memory, unbarred_lines}
 use Rattle.svo_top.proofs.open_file.answer.Goals as goal
 
 pub returns-in-Check-clause-works : goal.returns-in-Check-clause-works
@@ -87,33 +87,39 @@ returns-in-Lift-clause-sure g c = λ cells keeps refusal e.
     let out = change_of g.O.ByteSink.written g.O.ByteSink.faults c.args.out.now c.put_lifted.new.out in
     sure_of (image_of 2 (g.R.Records.file c.args.nodes.now).grid cells) out c.put_lifted.result (kept_told file (λ cells. Puts out.before out.after (image_of 2 (g.R.Records.file c.args.nodes.now).grid cells) c.put_lifted.result) c.put_lifted.ensures.told cells keeps) refusal (sym c.status_of_answer-in-Lift.ensures ∙ e)
 
-pub returns-in-Cast-clause-works : goal.returns-in-Cast-clause-works
-returns-in-Cast-clause-works g c = λ cells keeps.
+pub returns-in-Lines-clause-works : goal.returns-in-Lines-clause-works
+returns-in-Lines-clause-works g c = λ cells keeps.
     let file = g.R.Records.file c.args.nodes.now in
-    let input = change_of g.I.ByteSource.rest g.I.ByteSource.faults c.args.input.now c.answer_rays.new.input in
-    let out = change_of g.O.ByteSink.written g.O.ByteSink.faults c.args.out.now c.answer_rays.new.out in
+    let input = change_of g.I.ByteSource.rest g.I.ByteSource.faults c.args.input.now c.answer_text.new.input in
+    let out = change_of g.O.ByteSink.written g.O.ByteSink.faults c.args.out.now c.answer_text.new.out in
     let before = g.R.Records.faults c.args.nodes.now in
-    let after = g.R.Records.faults c.answer_rays.new.nodes in
-    subst (λ (q : Question). Works q file.format file.grid cells input out before after c.status_of_rays.result) (sym c.in-Cast.is)
-    (subst (λ (s : Status). Casts file.grid cells input out before after s) (sym c.status_of_rays.ensures)
-    (casts_of file input out before after c.answer_rays.result c.answer_rays.ensures.answered c.answer_rays.ensures.complete cells keeps))
+    let after = g.R.Records.faults c.answer_text.new.nodes in
+    let kind = c.in-Lines.kind in
+    subst (λ (q : Question). Works q file.format file.grid cells input out before after c.status_of_lines.result) (sym c.in-Lines.is)
+    (subst (λ (s : Status). AnswersInput kind file.grid cells input out before after s) (sym c.status_of_lines.ensures)
+    (answers_input kind file input out before after c.answer_text.result c.answer_text.ensures.stops c.answer_text.ensures.answered c.answer_text.ensures.complete cells keeps))
 
-pub returns-in-Cast-clause-sure : goal.returns-in-Cast-clause-sure
-returns-in-Cast-clause-sure g c = λ cells keeps refusal e.
-    sure_rays c.answer_rays.result (c.answer_rays.ensures.sound cells (record { words = keeps.words; told = keeps.told; stand = keeps.stand })) refusal (sym c.status_of_rays.ensures ∙ e)
+pub returns-in-Lines-clause-sure : goal.returns-in-Lines-clause-sure
+returns-in-Lines-clause-sure g c = λ cells keeps refusal e.
+    sure_lines c.answer_text.result (c.answer_text.ensures.sound cells (record { words = keeps.words; told = keeps.told; stand = keeps.stand })) refusal (sym c.status_of_lines.ensures ∙ e)
 
-pub returns-in-Cast-clause-ends : goal.returns-in-Cast-clause-ends
-returns-in-Cast-clause-ends g c =
-    let input = change_of g.I.ByteSource.rest g.I.ByteSource.faults c.args.input.now c.answer_rays.new.input in
-    let out = change_of g.O.ByteSink.written g.O.ByteSink.faults c.args.out.now c.answer_rays.new.out in
+pub returns-in-Lines-clause-ends : goal.returns-in-Lines-clause-ends
+returns-in-Lines-clause-ends g c =
+    let input = change_of g.I.ByteSource.rest g.I.ByteSource.faults c.args.input.now c.answer_text.new.input in
+    let out = change_of g.O.ByteSink.written g.O.ByteSink.faults c.args.out.now c.answer_text.new.out in
     let before = g.R.Records.faults c.args.nodes.now in
-    let after = g.R.Records.faults c.answer_rays.new.nodes in
-    subst (λ (q : Question). Ends q input out before after c.status_of_rays.result) (sym c.in-Cast.is)
-    (subst (λ (s : Status). Ends question.Cast input out before after s) (sym c.status_of_rays.ensures)
-    (rays_end input out before after c.answer_rays.result c.answer_rays.ensures.ends c.answer_rays.ensures.read c.answer_rays.ensures.cause))
+    let after = g.R.Records.faults c.answer_text.new.nodes in
+    let kind = c.in-Lines.kind in
+    subst (λ (q : Question). Ends q input out before after c.status_of_lines.result) (sym c.in-Lines.is)
+    (subst (λ (s : Status). Ends (question.Lines kind) input out before after s) (sym c.status_of_lines.ensures)
+    (lines_end kind input out before after c.answer_text.result c.answer_text.ensures.stops c.answer_text.ensures.ends c.answer_text.ensures.read c.answer_text.ensures.cause))
 
-pub returns-in-Cast-clause-unbarred : goal.returns-in-Cast-clause-unbarred
-returns-in-Cast-clause-unbarred g c = λ fault needs e. unbarred_rays c.answer_rays.result fault needs (sym c.status_of_rays.ensures ∙ e)
+pub returns-in-Lines-clause-remembered : goal.returns-in-Lines-clause-remembered
+returns-in-Lines-clause-remembered g c = λ kept e.
+    no_memory c.in-Lines.kind c.answer_text.result c.answer_text.ensures.stops (subst (λ (q : Question). takes_memory q ≡ false) c.in-Lines.is kept) (sym c.status_of_lines.ensures ∙ e)
+
+pub returns-in-Lines-clause-unbarred : goal.returns-in-Lines-clause-unbarred
+returns-in-Lines-clause-unbarred g c = λ fault needs e. unbarred_lines c.answer_text.result fault needs (sym c.status_of_lines.ensures ∙ e)
 
 pub returns-in-Slice-clause-works : goal.returns-in-Slice-clause-works
 returns-in-Slice-clause-works g c = λ cells keeps.
