@@ -42,7 +42,7 @@ one_growth before after other_before other_after told put other added too begins
 
 -- lines of which no device failed were all answered
 all_answered : (kind : QueryKind) (grid : GridShape) (cells : List Cell) (queries : List Query) (input out : Change) (before after : ℕ) (status : Status) → IsFaultless input → IsFaultless out → DidNotRise before after
-    → status ≢ Memory → Ends (question.Lines kind) input out before after status → AnswersLines kind grid cells queries out status → PutsAnswers grid cells rays out.before out.after
+    → status ≢ Memory → Ends (question.Lines kind) input out before after status → AnswersLines kind grid cells queries out status → PutsAnswers grid cells queries out.before out.after
 all_answered kind grid cells queries input out before after Done read written looked remembered ends answers = answers
 all_answered kind grid cells queries input out before after (Usage usage) read written looked remembered ends answers = absurd answers
 all_answered kind grid cells queries input out before after (Input refused place) read written looked remembered ends answers = answers
