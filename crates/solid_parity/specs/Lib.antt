@@ -1,0 +1,4 @@
+pub mod Parity
+pub mod Columns
+pub mod Edges
+pub mod Laws
