@@ -1,3 +1,4 @@
 pub mod Totals
 pub mod Paired
+pub mod Descending
 mod WorkedSolids

@@ -1,4 +1,6 @@
 pub mod Parity
 pub mod Columns
 pub mod Edges
+pub mod Heights
 pub mod Laws
+pub mod Seen
