@@ -4,3 +4,5 @@ pub mod Edges
 pub mod Heights
 pub mod Laws
 pub mod Seen
+pub mod PartCells
+pub mod Shapes

@@ -18,4 +18,4 @@ IsCorner s = IsSeenWithin (2 ^ 32) s
 
 -- centres of cells
 abbrev pub IsCentre : Seen → Type 0
-IsCentre s = IsSeenWithin (5 * 2 ^ 31) s
+IsCentre s = IsSeenWithin (6 * 2 ^ 31) s

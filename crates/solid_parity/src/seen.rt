@@ -72,7 +72,7 @@ fn minor_product(u: &i64, v: &i64, from: &i64, to: &i64) -> i128
     requires u { unsigned_abs u.now ≤ 2 ^ 32 }
     requires v { unsigned_abs v.now ≤ 2 ^ 32 }
     requires from { unsigned_abs from.now ≤ 2 ^ 32 }
-    requires to { unsigned_abs to.now ≤ 5 * 2 ^ 31 }
+    requires to { unsigned_abs to.now ≤ 6 * 2 ^ 31 }
     ensures value { result ≡ (v.now -ℤ u.now) *ℤ (to.now -ℤ from.now) }
     ensures within { unsigned_abs result ≤ 2 ^ 68 }
 {
@@ -82,7 +82,7 @@ fn minor_product(u: &i64, v: &i64, from: &i64, to: &i64) -> i128
 /// The way from a corner to a corner or a centre, along an axis.
 pub fn way(from: &i64, to: &i64) -> i64
     requires from { unsigned_abs from.now ≤ 2 ^ 32 }
-    requires to { unsigned_abs to.now ≤ 5 * 2 ^ 31 }
+    requires to { unsigned_abs to.now ≤ 6 * 2 ^ 31 }
     ensures value { result ≡ to.now -ℤ from.now }
     ensures within { unsigned_abs result ≤ 2 ^ 34 }
 {
