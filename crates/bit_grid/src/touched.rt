@@ -100,7 +100,8 @@ pub fn turn_touched(slots: &mut [u32], blocks: &mut TouchedBlocks, place: u64)
     ensures slot { slots.new ≡ put_at slots.old place (turned_slot (slice_index slots.old place)) }
     ensures touched { AreTouched slots.new blocks.new }
 {
-    set(&mut blocks.table, place >> blocks.shift);
+    let block = place >> blocks.shift;
+    set(&mut blocks.table, block);
     turn(slots, place);
 }
 

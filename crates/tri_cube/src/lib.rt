@@ -22,5 +22,5 @@ mod wide;
 pub use meeting::{overlaps, overlaps_by_candidates};
 pub use narrow::NarrowVector;
 pub use prepared::PreparedTriangle;
-pub use products::{cross, dot, scaled, wide_product};
+pub use products::{cross, scaled, wide_product};
 pub use verdicts::{Verdict, why};
