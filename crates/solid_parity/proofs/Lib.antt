@@ -4,4 +4,5 @@ pub mod Descending
 pub mod ColumnNumbers
 pub mod PartCodes
 pub mod Undersides
+pub mod Highest
 mod WorkedSolids

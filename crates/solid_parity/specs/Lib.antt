@@ -6,3 +6,4 @@ pub mod Laws
 pub mod Seen
 pub mod PartCells
 pub mod Shapes
+pub mod Notes

@@ -68,7 +68,8 @@ impl PartColumns {
     pub fn number_under(&self, shape: &Shape, x: u32, y: u32) -> u32
         requires x { x < part_side self.now.grid self.now.split }
         requires y { y < part_side self.now.grid self.now.split }
-        ensures { AreUnder self.now shape.now x y result }
+        ensures under { AreUnder self.now shape.now x y result }
+        ensures short { part_side self.now.grid self.now.split ≤ 2 ^ 12 }
     {
         let column = Seen {
             x: centre(&self.x, self.step, x),

@@ -6,9 +6,11 @@
 mod columns;
 mod heights;
 mod laws;
+mod notes;
 mod prepared;
 mod seen;
 
 pub use columns::PartColumns;
 pub use laws::parity_agrees_from_below;
+pub use notes::note_column;
 pub use prepared::Shape;

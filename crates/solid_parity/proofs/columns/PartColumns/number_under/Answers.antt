@@ -3,8 +3,8 @@ use Rattle.solid_parity.proofs.ColumnNumbers.{kept_64}
 use Rattle.solid_parity.proofs.Undersides.{none_under, lowest_under}
 use Rattle.solid_parity.proofs.columns.PartColumns.number_under.Goals as goal
 
-pub returns-then-not-is_on : goal.returns-then-not-is_on
-returns-then-not-is_on c =
+pub returns-then-not-is_on-clause-under : goal.returns-then-not-is_on-clause-under
+returns-then-not-is_on-clause-under c =
     let s = c.self.inside in
     rw (← c.self.view_is)
     (none_under _ c.args.shape.now s.x s.y s.z s.step s.side c.args.x c.args.y _ _ c.self.invariant
@@ -15,8 +15,8 @@ returns-then-not-is_on c =
 pub number_below-requires : goal.number_below-requires
 number_below-requires c = c.heights-heights.ensures.near c.self.inside.side c.self.invariant.z_near
 
-pub returns : goal.returns
-returns c =
+pub returns-clause-under : goal.returns-clause-under
+returns-clause-under c =
     let s = c.self.inside in
     rw (← c.self.view_is)
     (lowest_under _ c.args.shape.now s.x s.y s.z s.step s.side c.args.x c.args.y _ _ c.heights-heights.result c.number_below.result c.self.invariant
