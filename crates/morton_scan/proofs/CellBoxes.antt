@@ -101,7 +101,7 @@ levels_passing grid t test (suc height) node within pass met =
 
 -- so a test of it and of so many cells are not too many
 pub few_tests : (grid : GridShape) (t : Triangle) (test : ℕ → ℕ → Bool) (height node before after cells : ℕ) → height ≤ grid.depth → PassWhereMet grid t test
-    → Meets t (node_cube grid (grid.depth - height) node) → cells ≤ 8 * height → after ≡ before + 1 + cells → after ≤ before + 1 + 8 * passing test height node
+    → Meets t (node_cube grid (grid.depth - height) node) → cells ≤ 8 * height → after ≤ before + 1 + cells → after ≤ before + 1 + 8 * passing test height node
 few_tests grid t test height node before after cells within pass met few is =
     omega (arith, levels_passing grid t test height node within pass met, few, is)
 

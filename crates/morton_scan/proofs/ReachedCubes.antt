@@ -1,6 +1,6 @@
 -- A triangle that meets a cube has a box that reaches it.
-use Rattle.std.proofs.Common.{◌≡◌, ℕ, ◌+◌, List, Bool, true, false, ◌||◌, ℤ, inl, inr, arith, refl, sym, subst}
-use Rattle.std.specs.Prelude.{int_le}
+use Rattle.std.proofs.Common.{◌≡◌, ℕ, ◌+◌, List, Bool, true, false, ◌||◌, ℤ, pos, ◌+ℤ◌, ◌*ℤ◌, ◌≤ℤ◌, inl, inr, arith, refl, sym, subst}
+use Rattle.std.specs.Prelude.{int_le, ◌&&◌}
 use Rattle.std.specs.Int.{int_min, int_max}
 use Rattle.std.proofs.lemmas.Bool.{or_cases, and_parts, both_ways}
 use Rattle.std.proofs.lemmas.Int.{ints, clamps}
@@ -17,7 +17,7 @@ use Rattle.morton_scan.specs.Nodes.{IsNode}
 use Rattle.morton_scan.specs.Putting.{ArePut, MetUnder}
 use Rattle.morton_scan.proofs.NodesBelow.{put_unmet}
 use Rattle.svo_base.specs.Boxes.{bounds_of, extent_of}
-use Rattle.morton_scan.specs.Reaching.{bounds_reach, extent_reaches}
+use Rattle.morton_scan.specs.Reaching.{bounds_reach, bounds_within, extent_reaches}
 
 -- what one of three numbers does, their least does, and their greatest
 not_least : (a b c high : ℤ) → int_le (int_min (int_min a b) c) high ≡ false → (int_le a high || (int_le b high || int_le c high)) ≡ true → ⊥
@@ -51,6 +51,29 @@ reach_where_met t cube met =
     let all = and_parts _ _ (box_meets_where_met t cube met) in
     let rest = and_parts _ _ all.1 in
     rw (reached (λ p. p.x) t cube 0 all.0, reached (λ p. p.y) t cube 1 rest.0, reached (λ p. p.z) t cube 2 rest.1) refl
+
+-- a corner of the triangle lies in a cube within which its box lies
+corner_between : (a b c low high : ℤ) → (int_le low (int_min (int_min a b) c) && int_le (int_max (int_max a b) c) high) ≡ true
+    → ((pos 1 *ℤ low) ≤ℤ (((pos 1 *ℤ a) +ℤ (pos 0 *ℤ b)) +ℤ (pos 0 *ℤ c))) × ((((pos 1 *ℤ a) +ℤ (pos 0 *ℤ b)) +ℤ (pos 0 *ℤ c)) ≤ℤ (pos 1 *ℤ high))
+corner_between a b c low high within =
+    let parts = and_parts (int_le low (int_min (int_min a b) c)) (int_le (int_max (int_max a b) c) high) within in
+    (omega (arith, ints, clamps, parts.0), omega (arith, ints, clamps, parts.1))
+
+pub met_within : (t : Triangle) (b : Bounds) (cube : Cube) → b ≡ bounds_of t → bounds_within b cube ≡ true → Meets t cube
+unfolding bounds_of bounds_within
+met_within t b cube is within =
+    let all : bounds_within (bounds_of t) cube ≡ true = subst (λ b. bounds_within b cube ≡ true) is within in
+    let outer = and_parts _ _ all in
+    let inner = and_parts _ _ outer.0 in
+    record {
+      w0 = 1;
+      w1 = 0;
+      w2 = 0;
+      some = omega arith;
+      x = corner_between t.a.x t.b.x t.c.x (low_of cube 0) (high_of cube 0) inner.0;
+      y = corner_between t.a.y t.b.y t.c.y (low_of cube 1) (high_of cube 1) inner.1;
+      z = corner_between t.a.z t.b.z t.c.z (low_of cube 2) (high_of cube 2) outer.1;
+    }
 
 -- so a cube that the box does not reach is not met
 pub unreached : (t : Triangle) (b : Bounds) (cube : Cube) → b ≡ bounds_of t → bounds_reach b cube ≡ false → Meets t cube → ⊥

@@ -15,6 +15,14 @@ extent_reaches extent cube axis = int_le extent.low (high_of cube axis) && int_l
 unfoldable pub bounds_reach : Bounds → Cube → Bool
 bounds_reach b cube = extent_reaches b.x cube 0 && extent_reaches b.y cube 1 && extent_reaches b.z cube 2
 
+-- along an axis, the extent lies between a cube's planes
+abbrev pub extent_within : Extent → Cube → ℕ → Bool
+extent_within extent cube axis = int_le (low_of cube axis) extent.low && int_le extent.high (high_of cube axis)
+
+-- the box lies within the closed cube
+unfoldable pub bounds_within : Bounds → Cube → Bool
+bounds_within b cube = extent_within b.x cube 0 && extent_within b.y cube 1 && extent_within b.z cube 2
+
 -- on which sides of a node's middle plane the extent lies. The last child of a node begins there
 abbrev pub halves_of : Extent → Cube → ℕ → Halves
 halves_of extent last axis = record { lower = int_le extent.low (low_of last axis); upper = int_le (low_of last axis) extent.high }

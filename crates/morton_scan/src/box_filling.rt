@@ -1,8 +1,9 @@
 //! A triangle whose box reaches few cells is put into their slots by asking each of them.
 
-ghost use Rattle.std.specs.Prelude.{◌≡◌, ℕ, Bool, ◌+◌, ◌*◌, ◌^◌, ◌<◌, ◌≤◌, ◌+ℤ◌, pos, unsigned_abs, slice_index_or, length};
+ghost use Rattle.std.specs.Prelude.{◌≡◌, ℕ, Bool, ◌+◌, ◌*◌, ◌^◌, ◌<◌, ◌≤◌, ◌+ℤ◌, pos, unsigned_abs, slice_index_or, length, IsTrue, ◌↔◌};
 ghost use Rattle.bit_grid.specs.Touched.{AreTouched};
-ghost use Rattle.octree_specs.specs.Meeting.{HasPlanes};
+ghost use Rattle.octree_specs.specs.Meeting.{HasPlanes, Meets};
+ghost use Rattle.svo_base.specs.Boxes.{bounds_of};
 ghost use Rattle.octree_specs.specs.NodeCube.{code_of, node_cube};
 ghost use Rattle.octree_specs.specs.Parts.{passing, PassWhereMet};
 ghost use Rattle.svo_base.specs.GridShape.{IsGrid};
@@ -13,6 +14,7 @@ ghost use Rattle.morton_scan.specs.Putting.{ArePut, MetUnder};
 use crate::cell_boxes::CellBox;
 use crate::nodes::{Node, plane, side};
 use crate::put::Put;
+use crate::reaching::bounds_within;
 use bit_grid::{TouchedBlocks, put_touched};
 use morton_code::encode;
 use std::sync::ledger::Ledger;
@@ -35,6 +37,7 @@ pub fn fill_few<L: Ledger>(
     requires under { IsBoxUnder grid.now node.now cells.now }
     requires held { HoldsMet grid.now put.now.triangle node.now cells.now }
     requires few { cells_in cells.now ≤ 8 * node.now.height }
+    requires bounds { put.now.bounds ≡ bounds_of put.now.triangle }
     requires face { put.now.face + 1 < 2 ^ 32 }
     requires slots { HasSlots put.now.first (length slots.old) node.now.height node.now.code }
     requires touched { AreTouched slots.old blocks.old }
@@ -42,10 +45,24 @@ pub fn fill_few<L: Ledger>(
     ensures touched { AreTouched slots.new blocks.new }
     ensures tests { (test : ℕ → ℕ → Bool) → PassWhereMet grid.now put.now.triangle test → tests.new ≤ tests.old + 1 + 8 * passing test node.now.height node.now.code }
 {
-    if !put.triangle.overlaps(&node.cube, tests) {
+    if !is_met(node, put, tests) {
         return;
     }
     fill_box(grid, node, cells, put, slots, blocks, tests);
+}
+
+/// Whether a triangle meets a node: where its box lies within the node's cube it does, which needs no
+/// test.
+fn is_met<L: Ledger>(node: &Node, put: &Put, tests: &mut Steps<L>) -> bool
+    requires planes { HasPlanes node.now.cube }
+    requires bounds { put.now.bounds ≡ bounds_of put.now.triangle }
+    ensures meets { IsTrue result ↔ Meets put.now.triangle node.now.cube }
+    ensures tests { tests.new ≤ tests.old + 1 }
+{
+    if bounds_within(&put.bounds, &node.cube) {
+        return true;
+    }
+    put.triangle.overlaps(&node.cube, tests)
 }
 
 /// Puts a face into the slots of the cells of a box that its triangle meets.

@@ -8,10 +8,10 @@ use Rattle.morton_scan.proofs.NodesBelow.{not_met, put_unmet}
 use Rattle.morton_scan.proofs.Putting.{same_put}
 use Rattle.morton_scan.proofs.box_filling.fill_few.Goals as goal
 
-pub returns-then-not-overlaps-clause-slots : goal.returns-then-not-overlaps-clause-slots
-returns-then-not-overlaps-clause-slots g c =
+pub returns-then-not-is_met-clause-slots : goal.returns-then-not-is_met-clause-slots
+returns-then-not-is_met-clause-slots g c =
     put_unmet c.args.grid.now c.args.put.now.triangle c.args.node.now.height c.args.node.now.code c.args.put.now.first c.args.put.now.face c.args.slots.now c.requires.node.within
-    (λ met. not_met c.overlaps.result c.overlaps.ensures.meets c.if-not-overlaps.true (subst (λ cube. Meets c.args.put.now.triangle cube) (sym c.requires.node.is_cube) met))
+    (λ met. not_met c.is_met.result c.is_met.ensures.meets c.if-not-is_met.true (subst (λ cube. Meets c.args.put.now.triangle cube) (sym c.requires.node.is_cube) met))
 
 pub returns-clause-slots : goal.returns-clause-slots
 returns-clause-slots g c =
@@ -22,5 +22,5 @@ returns-clause-slots g c =
 pub returns-clause-tests : goal.returns-clause-tests
 returns-clause-tests g c test pass =
     few_tests c.args.grid.now c.args.put.now.triangle test c.args.node.now.height c.args.node.now.code c.args.tests.now c.fill_box.new.tests (cells_in c.args.cells.now) c.requires.node.within pass
-    (subst (λ cube. Meets c.args.put.now.triangle cube) c.requires.node.is_cube (c.overlaps.ensures.meets.0 c.if-not-overlaps.false)) c.requires.few
-    (omega (arith, c.overlaps.ensures.tests, c.fill_box.ensures.tests))
+    (subst (λ cube. Meets c.args.put.now.triangle cube) c.requires.node.is_cube (c.is_met.ensures.meets.0 c.if-not-is_met.false)) c.requires.few
+    (omega (arith, c.is_met.ensures.tests, c.fill_box.ensures.tests))
