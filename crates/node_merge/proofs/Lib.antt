@@ -1,0 +1,8 @@
+mod Below
+mod Heads
+mod HeldWords
+mod MapFiles
+mod MergedFaces
+mod Numbers
+mod Turns
+mod ToMaps

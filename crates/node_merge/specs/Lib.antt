@@ -1,0 +1,6 @@
+pub mod Combined
+pub mod Maps
+pub mod Numbered
+pub mod Paired
+pub mod Pushing
+pub mod Sides
