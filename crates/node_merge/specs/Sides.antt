@@ -1,10 +1,13 @@
 -- The two files of a pair, as contracts see them.
-use Rattle.std.specs.Prelude.{ℕ, ◌+◌, List, [], ◌∷◌, Option, None, Some}
+use Rattle.std.specs.Prelude.{ℕ, ◌+◌, List, [], ◌∷◌, Result, Ok, Err}
 use Rattle.dev_traits.specs.declared.file_device.NodeStore.{Ghosts}
 use Rattle.node_file.specs.FileView.{FileView}
 use Rattle.node_merge.specs.Numbered.{list_number, view_number}
 use Rattle.node_merge.specs.Paired.{half_view}
+use Rattle.node_merge.specs.declared.pair_loading.Frames.{Frames}
+use Rattle.node_merge.specs.declared.pair_loading.PairFault.{PairFault}
 use Rattle.node_merge.specs.declared.pairs.Pair.{Pair}
+use Rattle.node_merge.specs.declared.pairs.UnloadedPair.{UnloadedPair}
 use Rattle.node_merge.specs.declared.pairs.Turn.{Turn}
 use Rattle.node_merge.specs.declared.pairs.Turn.TheVariants.{First, Second}
 use Rattle.node_merge.specs.declared.sides.Side.{Side}
@@ -13,6 +16,11 @@ module _ {N : Type 0} {g : Ghosts N} where
   abbrev pub turn_view : Turn → Pair N g → FileView
   turn_view First pair = half_view (g.files pair.store.now) pair.first
   turn_view Second pair = half_view (g.files pair.store.now) pair.second
+
+  -- the answer to a load without the store that comes back with a fault
+  abbrev pub frames_of : Result (Pair N g) (UnloadedPair N) → Result Frames PairFault
+  frames_of (Ok pair) = Ok (record { first = pair.first.frame; second = pair.second.frame })
+  frames_of (Err unloaded) = Err unloaded.fault
 
   -- the file of a side
   abbrev pub side_view : Side N g → FileView

@@ -5,6 +5,7 @@ ghost use Rattle.std.specs.Int.{w64, from_le_bytes};
 ghost use Rattle.dev_traits.specs.Faults.{HasCause};
 ghost use Rattle.dev_traits.specs.Files.{NamedFile, current_bytes, HasBytes};
 ghost use Rattle.node_file.specs.Told.{GivesWord};
+ghost use Rattle.node_merge.specs.PairFrames.{IsFrameIn};
 ghost use Rattle.node_merge.specs.Paired.{half_view, IsHalf, GivesIn};
 
 use dev_traits::{Failed, NodeStore};
@@ -30,6 +31,22 @@ pub struct Half<'a> {
     // The block holds so many words, from this number on.
     pub first: u64,
     pub held: u64,
+}
+
+/// A file whose block holds no word yet.
+pub fn half_of<'a>(name: &'a str, frame: Frame) -> Half<'a>
+    ensures half { (told : Option (List NamedFile)) → (current : Option (List ℕ)) → IsFrameIn told name.now frame → IsHalf told current result }
+    ensures frame { result.frame ≡ frame }
+    ensures name { result.name.now ≡ name.now }
+{
+    Half {
+        name,
+        frame,
+        current: false,
+        block: [0; 4096],
+        first: 0,
+        held: 0,
+    }
 }
 
 /// The word of a number, of which the block is read where it does not hold it. The file is made the

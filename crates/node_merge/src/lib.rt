@@ -6,11 +6,13 @@ mod fronts;
 mod halves;
 mod kinds;
 mod merging;
+mod pair_loading;
 mod pairs;
 mod sides;
 mod turning;
 
 pub use file_merging::merge;
 pub use kinds::MergeKind;
-pub use pairs::{Pair, Turn};
+pub use pair_loading::{Frames, PairFault, read_frames};
+pub use pairs::{Pair, Turn, UnloadedPair};
 pub use sides::Side;
