@@ -4,5 +4,6 @@ mod HeldWords
 mod MapFiles
 mod MergedFaces
 mod Numbers
+mod OneGrid
 mod Turns
 mod ToMaps

@@ -9,6 +9,8 @@ mod merging;
 mod pair_loading;
 mod pairs;
 mod sides;
+#[cfg(test)]
+mod tests;
 mod turning;
 
 pub use file_merging::merge;

@@ -40,7 +40,7 @@ pub struct UnloadedPair<'a, N: NodeStore> {
 }
 
 impl<'a, N: NodeStore> Pair<'a, N> {
-    ghost use Rattle.std.specs.Prelude.{IfOk, IfErr, IfSome};
+    ghost use Rattle.std.specs.Prelude.{IfOk, IfErr, IfSome, IsTrue, ◌↔◌};
     ghost use Rattle.dev_traits.specs.Files.{file_named};
     ghost use Rattle.node_merge.specs.PairFrames.{FindsFrames, IsFrameIn, FailsOnlyByRise};
     ghost use Rattle.node_merge.specs.Sides.{turn_view, frames_of};
@@ -85,6 +85,13 @@ impl<'a, N: NodeStore> Pair<'a, N> {
             first: half_of(first, frames.first),
             second: half_of(second, frames.second),
         }
+    }
+
+    /// Whether both files have one grid.
+    pub fn has_one_grid(&self) -> bool
+        ensures grids { IsTrue result ↔ ((turn_view Second self.now).grid ≡ (turn_view First self.now).grid) }
+    {
+        self.second.frame.grid == self.first.frame.grid
     }
 
     /// What the bytes around a file's words say.

@@ -22,10 +22,10 @@ fn put_merged<N: NodeStore, O: ByteSink, L: Ledger>(
         Err(_) => return None,
         Ok(pair) => pair,
     };
-    let grid = pair.frame(Turn::First).grid;
-    if pair.frame(Turn::Second).grid != grid {
+    if !pair.has_one_grid() {
         return None;
     }
+    let grid = pair.frame(Turn::First).grid;
     let mut entries = [QueueEntry { word: 0, state: 0 }; 96];
     let mut block = [0; 64];
     let room = 8 * grid.depth() as usize;
@@ -72,25 +72,55 @@ fn merged(
 }
 
 /// A grid of depth 1 with the cells 0 and 1, of the faces 5 and 6.
-const ONE: [u8; 104] = *b"SVOCUBE2\x01\0\0\0\0\0\0\0\0\0\0\0\0\0\0\0\0\0\0\0\0\0\0\0\0\0\0\0\0\0\0\0\x01\0\0\0\0\0\0\0\x01\x05\0\0\0\0\0\0\x01\x06\0\0\0\0\0\0\x03\0\0\0\0\0\0\0\0\0\0\0\0\0\0\0\x03\0\0\0\0\0\0\0\x02\0\0\0\0\0\0\0SVOCEND2";
+const ONE: [u8; 104] =
+    *b"SVOCUBE2\x01\0\0\0\0\0\0\0\0\0\0\0\0\0\0\0\0\0\0\0\0\0\0\0\0\0\0\0\0\0\0\0\x01\0\0\0\0\0\0\0\x01\x05\0\0\0\0\0\0\x01\x06\0\0\0\0\0\0\x03\0\0\0\0\0\0\0\0\0\0\0\0\0\0\0\x03\0\0\0\0\0\0\0\x02\0\0\0\0\0\0\0SVOCEND2";
 
 /// The same with the cells 1 and 2, of the faces 3 and 4.
-const TWO: [u8; 104] = *b"SVOCUBE2\x01\0\0\0\0\0\0\0\0\0\0\0\0\0\0\0\0\0\0\0\0\0\0\0\0\0\0\0\0\0\0\0\x01\0\0\0\0\0\0\0\x01\x03\0\0\0\0\0\0\x01\x04\0\0\0\0\0\0\x06\0\0\0\0\0\0\0\0\0\0\0\0\0\0\0\x03\0\0\0\0\0\0\0\x02\0\0\0\0\0\0\0SVOCEND2";
+const TWO: [u8; 104] =
+    *b"SVOCUBE2\x01\0\0\0\0\0\0\0\0\0\0\0\0\0\0\0\0\0\0\0\0\0\0\0\0\0\0\0\0\0\0\0\x01\0\0\0\0\0\0\0\x01\x03\0\0\0\0\0\0\x01\x04\0\0\0\0\0\0\x06\0\0\0\0\0\0\0\0\0\0\0\0\0\0\0\x03\0\0\0\0\0\0\0\x02\0\0\0\0\0\0\0SVOCEND2";
 
 #[test]
 fn two_files_are_put_together(rt: HostRuntime) {
-    let (out, totals) =
-        merged(rt.alloc(), &ONE, &TWO, MergeKind::Union).expect(&rt, "memory");
-    assert_eq!(rt; totals, Some(Totals { records: 4, cells: 3 }), "the union's numbers");
+    let (out, totals) = merged(rt.alloc(), &ONE, &TWO, MergeKind::Union).expect(&rt, "memory");
+    assert_eq!(rt;
+        totals,
+        Some(Totals {
+            records: 4,
+            cells: 3
+        }),
+        "the union's numbers"
+    );
     assert_eq!(rt;
         &out.bytes()[48..80],
-        b"\x01\x05\0\0\0\0\0\0\x01\x06\0\0\0\0\0\0\x01\x04\0\0\0\0\0\0\x07\0\0\0\0\0\0\0",
+        b"\x01\x05\0\0\0\0\0\0\x01\x06\0\0\0\0\0\0\x01\x04\0\0\0\0\0\0\x07\0\0\0\0\0\0\0".as_slice(),
         "the union's words"
     );
     let (out, totals) = merged(rt.alloc(), &ONE, &TWO, MergeKind::Both).expect(&rt, "memory");
-    assert_eq!(rt; totals, Some(Totals { records: 2, cells: 1 }), "the numbers of both");
-    assert_eq!(rt; &out.bytes()[48..64], b"\x01\x06\0\0\0\0\0\0\x02\0\0\0\0\0\0\0", "the words of both");
+    assert_eq!(rt;
+        totals,
+        Some(Totals {
+            records: 2,
+            cells: 1
+        }),
+        "the numbers of both"
+    );
+    assert_eq!(rt;
+        &out.bytes()[48..64],
+        b"\x01\x06\0\0\0\0\0\0\x02\0\0\0\0\0\0\0".as_slice(),
+        "the words of both"
+    );
     let (out, totals) = merged(rt.alloc(), &ONE, &TWO, MergeKind::Minus).expect(&rt, "memory");
-    assert_eq!(rt; totals, Some(Totals { records: 2, cells: 1 }), "the rest's numbers");
-    assert_eq!(rt; &out.bytes()[48..64], b"\x01\x05\0\0\0\0\0\0\x01\0\0\0\0\0\0\0", "the rest's words");
+    assert_eq!(rt;
+        totals,
+        Some(Totals {
+            records: 2,
+            cells: 1
+        }),
+        "the rest's numbers"
+    );
+    assert_eq!(rt;
+        &out.bytes()[48..64],
+        b"\x01\x05\0\0\0\0\0\0\x01\0\0\0\0\0\0\0".as_slice(),
+        "the rest's words"
+    );
 }
