@@ -79,6 +79,16 @@ const ONE: [u8; 104] =
 const TWO: [u8; 104] =
     *b"SVOCUBE2\x01\0\0\0\0\0\0\0\0\0\0\0\0\0\0\0\0\0\0\0\0\0\0\0\0\0\0\0\0\0\0\0\x01\0\0\0\0\0\0\0\x01\x03\0\0\0\0\0\0\x01\x04\0\0\0\0\0\0\x06\0\0\0\0\0\0\0\0\0\0\0\0\0\0\0\x03\0\0\0\0\0\0\0\x02\0\0\0\0\0\0\0SVOCEND2";
 
+/// Their union, the cells of both, and those of the first alone.
+const UNION: [u8; 112] =
+    *b"SVOCUBE2\x01\0\0\0\0\0\0\0\0\0\0\0\0\0\0\0\0\0\0\0\0\0\0\0\0\0\0\0\0\0\0\0\x01\0\0\0\0\0\0\0\x01\x05\0\0\0\0\0\0\x01\x06\0\0\0\0\0\0\x01\x04\0\0\0\0\0\0\x07\0\0\0\0\0\0\0\0\0\0\0\0\0\0\0\x04\0\0\0\0\0\0\0\x03\0\0\0\0\0\0\0SVOCEND2";
+
+const BOTH: [u8; 96] =
+    *b"SVOCUBE2\x01\0\0\0\0\0\0\0\0\0\0\0\0\0\0\0\0\0\0\0\0\0\0\0\0\0\0\0\0\0\0\0\x01\0\0\0\0\0\0\0\x01\x06\0\0\0\0\0\0\x02\0\0\0\0\0\0\0\0\0\0\0\0\0\0\0\x02\0\0\0\0\0\0\0\x01\0\0\0\0\0\0\0SVOCEND2";
+
+const MINUS: [u8; 96] =
+    *b"SVOCUBE2\x01\0\0\0\0\0\0\0\0\0\0\0\0\0\0\0\0\0\0\0\0\0\0\0\0\0\0\0\0\0\0\0\x01\0\0\0\0\0\0\0\x01\x05\0\0\0\0\0\0\x01\0\0\0\0\0\0\0\0\0\0\0\0\0\0\0\x02\0\0\0\0\0\0\0\x01\0\0\0\0\0\0\0SVOCEND2";
+
 #[test]
 fn two_files_are_put_together(rt: HostRuntime) {
     let (out, totals) = merged(rt.alloc(), &ONE, &TWO, MergeKind::Union).expect(&rt, "memory");
@@ -90,11 +100,7 @@ fn two_files_are_put_together(rt: HostRuntime) {
         }),
         "the union's numbers"
     );
-    assert_eq!(rt;
-        &out.bytes()[48..80],
-        b"\x01\x05\0\0\0\0\0\0\x01\x06\0\0\0\0\0\0\x01\x04\0\0\0\0\0\0\x07\0\0\0\0\0\0\0".as_slice(),
-        "the union's words"
-    );
+    assert_eq!(rt; out.bytes(), UNION.as_slice(), "the union");
     let (out, totals) = merged(rt.alloc(), &ONE, &TWO, MergeKind::Both).expect(&rt, "memory");
     assert_eq!(rt;
         totals,
@@ -104,11 +110,7 @@ fn two_files_are_put_together(rt: HostRuntime) {
         }),
         "the numbers of both"
     );
-    assert_eq!(rt;
-        &out.bytes()[48..64],
-        b"\x01\x06\0\0\0\0\0\0\x02\0\0\0\0\0\0\0".as_slice(),
-        "the words of both"
-    );
+    assert_eq!(rt; out.bytes(), BOTH.as_slice(), "the cells of both");
     let (out, totals) = merged(rt.alloc(), &ONE, &TWO, MergeKind::Minus).expect(&rt, "memory");
     assert_eq!(rt;
         totals,
@@ -119,8 +121,8 @@ fn two_files_are_put_together(rt: HostRuntime) {
         "the rest's numbers"
     );
     assert_eq!(rt;
-        &out.bytes()[48..64],
-        b"\x01\x05\0\0\0\0\0\0\x01\0\0\0\0\0\0\0".as_slice(),
-        "the rest's words"
+        out.bytes(),
+        MINUS.as_slice(),
+        "the first without the second"
     );
 }
