@@ -1,0 +1,9 @@
+mod Below
+mod Heads
+mod HeldWords
+mod MapFiles
+mod MergedFaces
+mod Numbers
+mod OneGrid
+mod Turns
+mod ToMaps

@@ -1,0 +1,7 @@
+pub mod Combined
+pub mod Maps
+pub mod Numbered
+pub mod PairFrames
+pub mod Paired
+pub mod Pushing
+pub mod Sides
