@@ -1,10 +1,14 @@
 -- What lent slots say. A slot is 0 where nothing stands in it, else one more than the least number that was put there.
-use Rattle.std.specs.Prelude.{◌≡◌, ℕ, zero, suc, ◌+◌, ◌<◌, ◌≤◌, List, length, slice_index, min}
+use Rattle.std.specs.Prelude.{◌≡◌, ℕ, zero, suc, ◌+◌, ◌<◌, ◌≤◌, List, length, slice_index, min, cond, ◌==◌}
 
 -- what a slot keeps once this number is put into it
 unfoldable pub lesser_slot : ℕ → ℕ → ℕ
 lesser_slot zero face = face + 1
 lesser_slot (suc held) face = min held face + 1
+
+-- what a slot is once it is turned
+abbrev pub turned_slot : ℕ → ℕ
+turned_slot slot = cond (slot == 0) 1 0
 
 -- from here on every slot is 0
 abbrev pub HasNoSlotFrom : List ℕ → ℕ → Type 0

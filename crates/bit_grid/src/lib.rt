@@ -11,7 +11,7 @@ ghost use Rattle.bit_grid.specs.Touched.{AreTouched};
 ghost use Rattle.bit_grid.specs.Places.{is_set_at, HasNoneFrom, IsNextSet, IsLowestBit};
 
 pub use slots::{clear_slots, next_slot, put_least};
-pub use touched::{TouchedBlocks, clear_touched, next_touched, put_touched};
+pub use touched::{TouchedBlocks, clear_touched, next_touched, put_touched, turn_touched};
 
 /// The number of places that a word has.
 const WORD_BITS: u64 = 64;

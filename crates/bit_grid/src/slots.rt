@@ -2,7 +2,7 @@
 //! that was put there.
 
 ghost use Rattle.std.specs.Prelude.{◌≡◌, ℕ, ◌+◌, ◌^◌, ◌<◌, ◌≤◌, length, slice_index, set, IfNone, IfSome, MatchOption};
-ghost use Rattle.bit_grid.specs.Slots.{lesser_slot, HasNoSlotFrom, IsNextSlot};
+ghost use Rattle.bit_grid.specs.Slots.{lesser_slot, turned_slot, HasNoSlotFrom, IsNextSlot};
 
 /// Empties every slot.
 pub fn clear_slots(slots: &mut [u32])
@@ -33,6 +33,15 @@ fn lesser(slot: u32, face: u32) -> u32
     } else {
         slot
     }
+}
+
+/// Turns a slot to 1 where it is 0, and else to 0.
+pub fn turn(slots: &mut [u32], place: u64)
+    requires { place < length slots.old }
+    ensures { slots.new ≡ set slots.old place (turned_slot (slice_index slots.old place)) }
+{
+    let slot = &mut slots[place as usize];
+    *slot = u32::from(*slot == 0);
 }
 
 /// The least place from `from` on whose slot isn't 0, if there is one.

@@ -2,10 +2,10 @@
 //! of the blocks that were touched.
 
 ghost use Rattle.std.specs.Prelude.{◌≡◌, ℕ, ◌+◌, ◌*◌, ◌^◌, ◌<◌, ◌≤◌, List, length, slice_index, set as put_at, MatchOption};
-ghost use Rattle.bit_grid.specs.Slots.{lesser_slot, HasNoSlotFrom, IsNextSlot};
+ghost use Rattle.bit_grid.specs.Slots.{lesser_slot, turned_slot, HasNoSlotFrom, IsNextSlot};
 ghost use Rattle.bit_grid.specs.Touched.{AreTouched, HasNoTouchedFrom, IsNextRun};
 
-use crate::slots::{next_slot, put_least};
+use crate::slots::{next_slot, put_least, turn};
 use crate::{next_set, set};
 
 /// How many words the table has, of 64 blocks each.
@@ -91,6 +91,18 @@ pub fn put_touched(slots: &mut [u32], blocks: &mut TouchedBlocks, place: u64, fa
 {
     set(&mut blocks.table, place >> blocks.shift);
     put_least(slots, place, face);
+}
+
+/// Turns a slot to 1 where it is 0, and else to 0, and touches its block.
+pub fn turn_touched(slots: &mut [u32], blocks: &mut TouchedBlocks, place: u64)
+    requires place { place < length slots.old }
+    requires touched { AreTouched slots.old blocks.old }
+    ensures slot { slots.new ≡ put_at slots.old place (turned_slot (slice_index slots.old place)) }
+    ensures touched { AreTouched slots.new blocks.new }
+{
+    let block = place >> blocks.shift;
+    set(&mut blocks.table, block);
+    turn(slots, place);
 }
 
 /// The least place from `from` on whose slot isn't 0, if there is one. Only touched blocks are

@@ -15,35 +15,16 @@ use Rattle.node_file.specs.declared.writer.NodeWriter.{NodeWriter}
 use Rattle.node_file.specs.Waiting.{GrewByFront}
 use Rattle.node_file.specs.Writing.{given, waiting}
 use Rattle.level_queues.specs.Pushed.{IsQueued, GoesOn}
+use Rattle.level_queues.specs.PushedFiles.{AreBelow, HasPushed}
 use Rattle.level_queues.specs.Fronts.{Ascend, GrewToward}
 use Rattle.level_queues.specs.declared.levels.LevelQueues.{LevelQueues}
 use Rattle.level_queues.proofs.FileFronts.{front_begun, front_now, front_ended, front_closed}
 use Rattle.level_queues.proofs.Onward.{goes_nowhere, goes_further}
 use Rattle.level_queues.proofs.WholeFile.{whole_file}
-use Rattle.build_core.specs.Pushing.{AreBelow, HasPushed, PushesOn, LeavesFront}
+use Rattle.build_core.specs.Pushing.{PushesOn, LeavesFront}
 use Rattle.build_core.specs.ScratchParts.{HasPartsOf}
 use Rattle.build_core.specs.PutFiles.{HasPutFile, HasPutFront}
 use Rattle.build_core.proofs.LaterCells.{all_later}
-
--- ---- before the first cell
-
-pub none_pushed : {O : Type 0} {g : Ghosts O} (grid : GridShape) (start : Option (List ℕ)) (queues : LevelQueues) (writer : NodeWriter O g)
-    → IsQueued [] queues [] → queues.depth ≡ grid.depth → given writer ≡ append_known start (header_of 2 grid) → g.written writer.sink.now ≡ start → writer.records ≡ 0
-    → HasPushed grid start 0 [] queues writer
-none_pushed {g = g} grid start queues writer queued deep begun unwritten none = record {
-  holds = record {
-    below = record {
-      ascending = λ k within. absurd (omega (arith, within));
-      inside = All-nil (λ (cell : Cell). cell.code < 0);
-      faces = All-nil (λ (cell : Cell). cell.face ≤ 2 ^ 32 - 2);
-    };
-    front = front_begun grid start (g.written writer.sink.now) unwritten;
-  };
-  queued = subst (λ told. GoesOn [] told (given writer) (IsQueued [] queues)) begun (goes_nowhere [] (given writer) (IsQueued [] queues) queued);
-  records = none ∙ sym queued.count;
-  depth = deep;
-  last = λ some. absurd (omega (arith, some, queued.cells));
-}
 
 -- ---- cells of the grid
 

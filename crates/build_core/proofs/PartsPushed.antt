@@ -14,7 +14,8 @@ use Rattle.level_queues.specs.declared.levels.LevelQueues.{LevelQueues}
 use Rattle.octree_specs.specs.Parts.{part_of}
 use Rattle.morton_scan.specs.FilledParts.{tests_of}
 use Rattle.morton_scan.specs.Putting.{first_of_part}
-use Rattle.build_core.specs.Pushing.{HoldsFrontBelow, AreSlotsOf, HasPushed, PushesOn, LeavesFront}
+use Rattle.level_queues.specs.PushedFiles.{HoldsFrontBelow, HasPushed}
+use Rattle.build_core.specs.Pushing.{AreSlotsOf, PushesOn, LeavesFront}
 use Rattle.build_core.specs.ScratchParts.{HasPartOf, HasPartsOf, tests_of_parts}
 use Rattle.build_core.proofs.PartFills.{part_inside}
 use Rattle.build_core.proofs.NextSlots.{fill_none}

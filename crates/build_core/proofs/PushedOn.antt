@@ -15,13 +15,11 @@ use Rattle.octree_specs.specs.Formats.{file_words}
 use Rattle.octree_specs.specs.OctreeFile.{header_of}
 use Rattle.node_file.specs.declared.writer.NodeWriter.{NodeWriter}
 use Rattle.node_file.specs.Writing.{given, waiting}
-use Rattle.level_queues.specs.Pushed.{IsQueued, GoesOn}
-use Rattle.level_queues.specs.Fronts.{Ascend, GrewToward}
+use Rattle.level_queues.specs.PushedFiles.{HoldsFrontBelow, HasPushed}
 use Rattle.level_queues.specs.declared.levels.LevelQueues.{LevelQueues}
-use Rattle.level_queues.proofs.FileFronts.{front_pushed}
-use Rattle.level_queues.proofs.Onward.{goes_further}
+use Rattle.level_queues.proofs.PushedFiles.{PushesFront, PushesCell, push_leaves, push_on, pushed_to}
 use Rattle.morton_scan.specs.NextCells.{HasNoCellFrom, IsNextCell}
-use Rattle.build_core.specs.Pushing.{AreBelow, HoldsFrontBelow, AreSlotsOf, FillOn, HasPushed, PushesOn, LeavesFront}
+use Rattle.build_core.specs.Pushing.{AreSlotsOf, FillOn, PushesOn, LeavesFront}
 use Rattle.build_core.proofs.NextSlots.{fill_none, fill_next, fill_end}
 
 -- ---- moves
@@ -38,74 +36,9 @@ moves_next depth deep moves middle moved cells cell same few more =
     let one : depth * length (cell ∷ []) ≡ depth = omega arith in
     moves_further depth moves middle moved cells (cell ∷ []) few (omega (arith, one, more, same))
 
--- ---- cells in order
-
--- a greater number at the end keeps the order
-increasing_push : (numbers : List ℕ) (n : ℕ) → IsStrictlyIncreasing numbers → All (λ m. m < n) numbers → IsStrictlyIncreasing (numbers ++ n ∷ [])
-increasing_push numbers n ascending inside k within = elim (cases_eq (k + 1) (length numbers)) [
-  | inl last ↦ grind (arith, common_steps, inside k 0)
-  | inr before ↦ grind (arith, common_steps, ascending k)
-]
-
-below_next : (bound : ℕ) (cells : List Cell) (cell : Cell) → AreBelow bound cells → bound ≤ cell.code → cell.face ≤ 2 ^ 32 - 2 → AreBelow (cell.code + 1) (cells ++ cell ∷ [])
-below_next bound cells cell are later face =
-    let inside : All (λ (c : Cell). c.code < cell.code) cells = All-weaker (λ (c : Cell). c.code < bound) (λ (c : Cell). c.code < cell.code) (λ c below. omega (arith, below, later)) cells are.inside in
-    let codes : codes_of (cells ++ cell ∷ []) ≡ codes_of cells ++ cell.code ∷ [] = map-append (λ (c : Cell). c.code) cells (cell ∷ []) in
-    record {
-      ascending = subst IsStrictlyIncreasing (sym codes) (increasing_push (codes_of cells) cell.code are.ascending (All-map (λ n. n < cell.code) (λ (c : Cell). c.code) cells inside));
-      inside = All-push (λ (c : Cell). c.code < cell.code + 1) cells cell
-          (All-weaker (λ (c : Cell). c.code < cell.code) (λ (c : Cell). c.code < cell.code + 1) (λ c below. omega (arith, below)) cells inside) (omega arith);
-      faces = All-push (λ (c : Cell). c.face ≤ 2 ^ 32 - 2) cells cell are.faces face;
-    }
-
-pub below_later : (bound more : ℕ) (cells : List Cell) → bound ≤ more → AreBelow bound cells → AreBelow more cells
-below_later bound more cells later are = record {
-  ascending = are.ascending;
-  inside = All-weaker (λ (c : Cell). c.code < bound) (λ (c : Cell). c.code < more) (λ c below. omega (arith, below, later)) cells are.inside;
-  faces = are.faces;
-}
-
--- ---- one cell
+-- ---- the cells of a part
 
 module _ {O : Type 0} {g : Ghosts O} where
-  -- what the push of a cell says of the sink, at every answer
-  abbrev pub PushesFront : ℕ → ℕ → LevelQueues → NodeWriter O g → Option (List ℕ) → Type 0
-  PushesFront code face queues writer after =
-      (cells : List Cell) → (words : List ℕ) → IsQueued cells queues words → (later : List Cell) → Ascend queues.depth (cells ++ record { code = code; face = face } ∷ later)
-      → GrewToward words (file_words 2 queues.depth (cells ++ record { code = code; face = face } ∷ later)) (g.written writer.sink.now) after (waiting writer)
-
-  -- what it says of the queues where it is not refused
-  pub record PushesCell (code face : ℕ) (old new : LevelQueues) (writer after : NodeWriter O g) : Type 0 where
-    pub queued : (cells : List Cell) → (words : List ℕ) → IsQueued cells old words
-        → GoesOn words (given writer) (given after) (IsQueued (cells ++ record { code = code; face = face } ∷ []) new)
-    pub records : after.records ≡ new.words
-    pub depth : new.depth ≡ old.depth
-    pub last : new.last ≡ code
-    pub front : PushesFront code face old writer (g.written after.sink.now)
-
-  pub push_leaves : (grid : GridShape) (start : Option (List ℕ)) (from code face : ℕ) (cells : List Cell) (queues : LevelQueues) (writer : NodeWriter O g) (after : Option (List ℕ))
-      → HasPushed grid start from cells queues writer → from ≤ code → face ≤ 2 ^ 32 - 2 → PushesFront code face queues writer after
-      → HoldsFrontBelow grid start (code + 1) (cells ++ record { code = code; face = face } ∷ []) after
-  push_leaves grid start from code face cells queues writer after has later small push = record {
-    below = below_next from cells (record { code = code; face = face }) has.holds.below later small;
-    front = front_pushed grid cells (record { code = code; face = face }) has.queued.more (waiting writer) start (g.written writer.sink.now) after queues.depth has.holds.front
-        has.queued.grown has.depth (push cells has.queued.more has.queued.holds);
-  }
-
-  pub push_on : (grid : GridShape) (start : Option (List ℕ)) (from code face : ℕ) (cells : List Cell) (old new : LevelQueues) (writer after : NodeWriter O g)
-      → HasPushed grid start from cells old writer → from ≤ code → face ≤ 2 ^ 32 - 2 → PushesCell code face old new writer after
-      → HasPushed grid start (code + 1) (cells ++ record { code = code; face = face } ∷ []) new after
-  push_on grid start from code face cells old new writer after has later small push = record {
-    holds = push_leaves grid start from code face cells old writer (g.written after.sink.now) has later small push.front;
-    queued = goes_further [] (append_known start (header_of 2 grid)) (given writer) (given after) (IsQueued cells old) (IsQueued (cells ++ record { code = code; face = face } ∷ []) new)
-        has.queued (push.queued cells);
-    records = push.records;
-    depth = push.depth ∙ has.depth;
-    last = λ some. omega (arith, push.last);
-  }
-
-  -- ---- the cells of a part
-
   pub begins : (grid : GridShape) (start : Option (List ℕ)) (from : ℕ) (cells : List Cell) (Known : List Faced → Type 0) (queues : LevelQueues) (writer : NodeWriter O g) (moves : ℕ)
       → HasPushed grid start from cells queues writer → PushesOn grid start from from cells Known queues writer moves moves
   begins grid start from cells Known queues writer moves has = record {
@@ -145,13 +78,7 @@ module _ {O : Type 0} {g : Ghosts O} where
         → Pushes from queues writer moves moved → Pushes to queues writer moves moved
     no_more from to queues writer moves moved low high reach none on = record {
       more = on.more;
-      pushed = record {
-        holds = record { below = below_later from to (cells ++ on.more) high on.pushed.holds.below; front = on.pushed.holds.front };
-        queued = on.pushed.queued;
-        records = on.pushed.records;
-        depth = on.pushed.depth;
-        last = λ some. omega (arith, on.pushed.last some, high);
-      };
+      pushed = pushed_to grid start from to (cells ++ on.more) queues writer high on.pushed;
       few_moves = on.few_moves;
       filled = subst (λ n. FillOn grid (AreSlotsOf slots first codes grid) first n cells on.more) (sym reach)
           (fill_end slots first codes first from grid cells on.more low (omega (arith, high, reach)) none on.filled);

@@ -10,20 +10,8 @@ use Rattle.octree_specs.specs.FilledCells.{AreFilledBelow, IsSlotOf}
 use Rattle.octree_specs.specs.OctreeFile.{header_of}
 use Rattle.node_file.specs.declared.writer.NodeWriter.{NodeWriter}
 use Rattle.node_file.specs.Writing.{given}
-use Rattle.level_queues.specs.Pushed.{IsQueued, GoesOn}
-use Rattle.level_queues.specs.Fronts.{HoldsFront}
+use Rattle.level_queues.specs.PushedFiles.{HoldsFrontBelow, HasPushed}
 use Rattle.level_queues.specs.declared.levels.LevelQueues.{LevelQueues}
-
--- cells with faces, in ascending order of their codes, which are below a bound
-pub record AreBelow (bound : ℕ) (cells : List Cell) : Type 0 where
-  pub ascending : IsStrictlyIncreasing (codes_of cells)
-  pub inside : All (λ cell. cell.code < bound) cells
-  pub faces : All (λ cell. cell.face ≤ 2 ^ 32 - 2) cells
-
--- the sink, which held `start` before the file, holds a front of the file of these cells, whose codes are below a bound, whatever cells follow
-pub record HoldsFrontBelow (grid : GridShape) (start : Option (List ℕ)) (bound : ℕ) (cells : List Cell) (written : Option (List ℕ)) : Type 0 where
-  pub below : AreBelow bound cells
-  pub front : HoldsFront grid cells start written
 
 -- each slot of a part, of so many from the first code on, is the one that these triangles give its cell
 abbrev pub AreSlotsOf : List ℕ → ℕ → ℕ → GridShape → List Faced → Type 0
@@ -34,14 +22,6 @@ abbrev pub FillOn : GridShape → (List Faced → Type 0) → ℕ → ℕ → Li
 FillOn grid Known from to cells more = (faced : List Faced) → Known faced → AreFilledBelow grid faced from cells → AreFilledBelow grid faced to (cells ++ more)
 
 module _ {O : Type 0} {g : Ghosts O} where
-  -- these cells, whose codes are below a bound, were pushed, and their words given to a writer that was begun when its sink held `start`
-  pub record HasPushed (grid : GridShape) (start : Option (List ℕ)) (bound : ℕ) (cells : List Cell) (queues : LevelQueues) (writer : NodeWriter O g) : Type 0 where
-    pub holds : HoldsFrontBelow grid start bound cells (g.written writer.sink.now)
-    pub queued : GoesOn [] (append_known start (header_of 2 grid)) (given writer) (IsQueued cells queues)
-    pub records : writer.records ≡ queues.words
-    pub depth : queues.depth ≡ grid.depth
-    pub last : 0 < queues.cells → queues.last < bound
-
   -- of the cells from one bound to the next, those were pushed behind the others that triangles of a kind fill, each with at most a move a level
   pub record PushesOn (grid : GridShape) (start : Option (List ℕ)) (from to : ℕ) (cells : List Cell) (Known : List Faced → Type 0) (queues : LevelQueues) (writer : NodeWriter O g) (moves moved : ℕ) : Type 0 where
     pub more : List Cell

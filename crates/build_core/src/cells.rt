@@ -4,7 +4,8 @@ ghost use Rattle.std.specs.Prelude.{◌≡◌, ℕ, ◌+◌, ◌*◌, ◌^◌, �
 ghost use Rattle.dev_traits.specs.Faults.{HasCause};
 ghost use Rattle.svo_base.specs.GridShape.{GridShape};
 ghost use Rattle.octree_specs.specs.Cells.{Cell};
-ghost use Rattle.build_core.specs.Pushing.{AreSlotsOf, HasPushed, PushesOn, LeavesFront};
+ghost use Rattle.level_queues.specs.PushedFiles.{HasPushed};
+ghost use Rattle.build_core.specs.Pushing.{AreSlotsOf, PushesOn, LeavesFront};
 
 use dev_traits::{ByteSink, Failed};
 use level_queues::LevelQueues;

@@ -9,7 +9,8 @@ ghost use Rattle.octree_specs.specs.Parts.{part_of};
 ghost use Rattle.tri_partition.specs.PartStreams.{HasStream};
 ghost use Rattle.morton_scan.specs.FilledParts.{TestEachParcel, tests_of};
 ghost use Rattle.morton_scan.specs.Putting.{first_of_part};
-ghost use Rattle.build_core.specs.Pushing.{HasPushed, PushesOn, LeavesFront};
+ghost use Rattle.level_queues.specs.PushedFiles.{HasPushed};
+ghost use Rattle.build_core.specs.Pushing.{PushesOn, LeavesFront};
 ghost use Rattle.build_core.specs.ScratchParts.{HasPartOf, HasPartsOf, tests_of_parts};
 ghost use Rattle.build_core.specs.declared.faults.NodesFault.{NodesFault};
 

@@ -6,65 +6,15 @@ ghost use Rattle.dev_traits.specs.Faults.{HasCause, counted};
 ghost use Rattle.octree_specs.specs.OctreeFile.{frame_of};
 ghost use Rattle.std.specs.Io.KnownBytes.{append_known};
 ghost use Rattle.node_file.specs.Waiting.{GrewByFront};
-ghost use Rattle.svo_base.specs.GridShape.{IsGrid};
 
 use dev_traits::{ByteSink, Failed, MemSink, PartFail};
 use node_file::{
-    NodeWriter, Records, Totals, header_bytes, read_format, read_header, read_trailer,
+    LentWords, NodeWriter, Records, Totals, header_bytes, read_format, read_header, read_trailer,
     trailer_bytes,
 };
 use std::marker::Brand;
 use std::sync::ledger::{Blank, Ledger};
 use svo_base::{Grid, Steps};
-
-/// Lent words as those of a file. One call of `word` is refused: the one with this number, from 1.
-#[derive(Drop)]
-struct LentWords<'a> {
-    grid: Grid,
-    cells: u64,
-    words: &'a [u64],
-    refused: u64,
-    calls: u64,
-    faults: u64,
-    ghost limits: { IsGrid grid },
-    ghost some: { 1 ≤ length words.now },
-}
-
-impl<'a> Records for LentWords<'a> {
-    ghost use Rattle.std.specs.Prelude.{length, Some};
-
-    ghost file = { λ s. record { format = 2; grid = s.grid; totals = record { records = length s.words.now; cells = s.cells }; words = Some s.words.now } };
-
-    ghost faults = { λ s. s.faults };
-
-    ghost looked = { λ s. s.calls };
-
-    fn grid(&self) -> Grid {
-        self.grid
-    }
-
-    fn totals(&self) -> Totals {
-        Totals {
-            records: self.words.len() as u64,
-            cells: self.cells,
-        }
-    }
-
-    fn format(&self) -> u32 {
-        2
-    }
-
-    fn word<L: Ledger>(&mut self, number: u64, reads: &mut Steps<L>) -> Result<u64, Failed> {
-        reads.tick();
-        self.calls = self.calls.saturating_add(1);
-        if self.calls == self.refused {
-            self.faults = self.faults.saturating_add(1);
-            return Err(Failed);
-        }
-        let words = self.words;
-        Ok(words[number as usize])
-    }
-}
 
 /// The root's word and the first one.
 fn ends<R: Records, L: Ledger>(nodes: &mut R, reads: &mut Steps<L>) -> Result<(u64, u64), Failed>
@@ -94,6 +44,7 @@ fn ends_of<L: Ledger>(words: &[u64], refused: u64, blank: Blank) -> Result<(u64,
     }
     let mut reads = Steps::<L>::new(blank);
     let mut nodes = LentWords {
+        masks: false,
         grid,
         cells: 3,
         words,

@@ -26,40 +26,16 @@ use Rattle.node_check.specs.declared.stops.AnswerStop.TheVariants.{WriteFault, W
 use Rattle.node_check.specs.declared.walking.WalkFault.{WalkFault}
 use Rattle.node_check.specs.declared.walking.WalkFault.TheVariants.{Failed, Refused}
 use Rattle.level_queues.specs.Pushed.{IsQueued, GoesOn}
+use Rattle.level_queues.specs.PushedFiles.{HasPushed}
 use Rattle.level_queues.specs.Fronts.{Ascend, GrewToward, HoldsFront}
 use Rattle.level_queues.specs.declared.levels.LevelQueues.{LevelQueues}
 use Rattle.level_queues.proofs.FileFronts.{front_begun, front_pushed, front_now, front_ended, front_closed}
-use Rattle.level_queues.proofs.Onward.{goes_nowhere, goes_further}
+use Rattle.level_queues.proofs.Onward.{goes_further}
+use Rattle.level_queues.proofs.PushedFiles.{PushesFront, PushesCell, push_front, push_on, pushed_to}
 use Rattle.level_queues.proofs.WholeFile.{whole_file}
-use Rattle.cell_lists.specs.Lifted.{AreBelow, HasPushed, PushesAll, HoldsFirst, Accepts, IsUnrefused}
+use Rattle.cell_lists.specs.Lifted.{PushesAll, HoldsFirst, Accepts, IsUnrefused}
 use Rattle.cell_lists.proofs.Befores.{cells_before, cells_from, before_none, IsStep, next_step, none_next, both_parts}
 use Rattle.cell_lists.proofs.Listed.{stand_ascends}
-
--- ---- cells in order
-
-increasing_push : (numbers : List ℕ) (n : ℕ) → IsStrictlyIncreasing numbers → All (λ m. m < n) numbers → IsStrictlyIncreasing (numbers ++ n ∷ [])
-increasing_push numbers n ascending inside k within = elim (cases_eq (k + 1) (length numbers)) [
-  | inl last ↦ grind (arith, common_steps, inside k 0)
-  | inr before ↦ grind (arith, common_steps, ascending k)
-]
-
-below_next : (bound : ℕ) (cells : List Cell) (cell : Cell) → AreBelow bound cells → bound ≤ cell.code → cell.face ≤ 2 ^ 32 - 2 → AreBelow (cell.code + 1) (cells ++ cell ∷ [])
-below_next bound cells cell are later face =
-    let inside : All (λ (c : Cell). c.code < cell.code) cells = All-weaker (λ (c : Cell). c.code < bound) (λ (c : Cell). c.code < cell.code) (λ c below. omega (arith, below, later)) cells are.inside in
-    let codes : codes_of (cells ++ cell ∷ []) ≡ codes_of cells ++ cell.code ∷ [] = map-append (λ (c : Cell). c.code) cells (cell ∷ []) in
-    record {
-      ascending = subst IsStrictlyIncreasing (sym codes) (increasing_push (codes_of cells) cell.code are.ascending (All-map (λ n. n < cell.code) (λ (c : Cell). c.code) cells inside));
-      inside = All-push (λ (c : Cell). c.code < cell.code + 1) cells cell
-          (All-weaker (λ (c : Cell). c.code < cell.code) (λ (c : Cell). c.code < cell.code + 1) (λ c below. omega (arith, below)) cells inside) (omega arith);
-      faces = All-push (λ (c : Cell). c.face ≤ 2 ^ 32 - 2) cells cell are.faces face;
-    }
-
-below_later : (bound more : ℕ) (cells : List Cell) → bound ≤ more → AreBelow bound cells → AreBelow more cells
-below_later bound more cells later are = record {
-  ascending = are.ascending;
-  inside = All-weaker (λ (c : Cell). c.code < bound) (λ (c : Cell). c.code < more) (λ c below. omega (arith, below, later)) cells are.inside;
-  faces = are.faces;
-}
 
 stand_ascend : (format depth : ℕ) (words : List ℕ) (cells : List Cell) → StandFor format depth words cells → Ascend depth cells
 stand_ascend format depth words cells stand = record { ascending = stand.cells_are.map.ascending; inside = stand.cells_are.map.inside }
@@ -120,21 +96,6 @@ always_accepts file result are = accepts file.words
 -- ---- one cell
 
 module _ {O : Type 0} {g : Ghosts O} where
-  -- what the push of a cell says of the sink, at every answer
-  abbrev pub PushesFront : ℕ → ℕ → LevelQueues → NodeWriter O g → Option (List ℕ) → Type 0
-  PushesFront code face queues writer after =
-      (cells : List Cell) → (words : List ℕ) → IsQueued cells queues words → (later : List Cell) → Ascend queues.depth (cells ++ record { code = code; face = face } ∷ later)
-      → GrewToward words (file_words 2 queues.depth (cells ++ record { code = code; face = face } ∷ later)) (g.written writer.sink.now) after (waiting writer)
-
-  -- what it says of the queues where it is not refused
-  pub record PushesCell (code face : ℕ) (old new : LevelQueues) (writer after : NodeWriter O g) : Type 0 where
-    pub queued : (cells : List Cell) → (words : List ℕ) → IsQueued cells old words
-        → GoesOn words (given writer) (given after) (IsQueued (cells ++ record { code = code; face = face } ∷ []) new)
-    pub records : after.records ≡ new.words
-    pub depth : new.depth ≡ old.depth
-    pub last : new.last ≡ code
-    pub front : PushesFront code face old writer (g.written after.sink.now)
-
   -- the cells below a code were pushed
   pub record PushesOn (file : FileView) (start : Option (List ℕ)) (from : ℕ) (queues : LevelQueues) (writer : NodeWriter O g) : Type 0 where
     pub cells : List Cell
@@ -148,26 +109,13 @@ module _ {O : Type 0} {g : Ghosts O} where
     before = before_first file.words file.format file.grid.depth from zero;
   }
 
-  push_front : (file : FileView) (start : Option (List ℕ)) (from : ℕ) (cell : FacedCell) (queues : LevelQueues) (writer : NodeWriter O g) (after : Option (List ℕ)) → (on : PushesOn file start from queues writer)
-      → PushesFront cell.code cell.face queues writer after → HoldsFront file.grid (on.cells ++ record { code = cell.code; face = cell.face } ∷ []) start after
-  push_front file start from cell queues writer after on push =
-      front_pushed file.grid on.cells (record { code = cell.code; face = cell.face }) on.pushed.queued.more (waiting writer) start (g.written writer.sink.now) after queues.depth on.pushed.front
-      on.pushed.queued.grown on.pushed.depth (push on.cells on.pushed.queued.more on.pushed.queued.holds)
-
   -- after a cell was pushed
   pub pushes_cell : (file : FileView) (start : Option (List ℕ)) (from more : ℕ) (cell : FacedCell) (old new : LevelQueues) (writer after : NodeWriter O g) → NextsFaced file.words file.format file.grid.depth from (Ok (Some cell))
       → from ≤ cell.code → cell.face ≤ 2 ^ 32 - 2 → more ≡ cell.code + 1 → PushesCell cell.code cell.face old new writer after → PushesOn file start from old writer → PushesOn file start more new after
   pushes_cell file start from more cell old new writer after next later small is push on = record {
     cells = on.cells ++ record { code = cell.code; face = cell.face } ∷ [];
-    pushed = record {
-      below = subst (λ n. AreBelow n (on.cells ++ record { code = cell.code; face = cell.face } ∷ [])) (sym is) (below_next from on.cells (record { code = cell.code; face = cell.face }) on.pushed.below later small);
-      front = push_front file start from cell old writer (g.written after.sink.now) on push.front;
-      queued = goes_further [] (append_known start (header_of 2 file.grid)) (given writer) (given after) (IsQueued on.cells old) (IsQueued (on.cells ++ record { code = cell.code; face = cell.face } ∷ []) new)
-          on.pushed.queued (push.queued on.cells);
-      records = push.records;
-      depth = push.depth ∙ on.pushed.depth;
-      last = λ some. omega (arith, push.last, is);
-    };
+    pushed = subst (λ n. HasPushed file.grid start n (on.cells ++ record { code = cell.code; face = cell.face } ∷ []) new after) (sym is)
+        (push_on file.grid start from cell.code cell.face on.cells old new writer after on.pushed later small push);
     before = before_more file.words file.format file.grid.depth from more cell on.cells next is on.before;
   }
 
@@ -178,7 +126,7 @@ module _ {O : Type 0} {g : Ghosts O} where
     cells = on.cells ++ record { code = cell.code; face = cell.face } ∷ [];
     first = before_front file.words file.format file.grid.depth (cell.code + 1) (on.cells ++ record { code = cell.code; face = cell.face } ∷ [])
         (before_more file.words file.format file.grid.depth from (cell.code + 1) cell on.cells next refl on.before);
-    front = push_front file start from cell queues writer after on push;
+    front = push_front file.grid start from cell.code cell.face on.cells queues writer after on.pushed push;
   }
 
   -- between two pushes
@@ -186,7 +134,7 @@ module _ {O : Type 0} {g : Ghosts O} where
   pushes_first file start from queues writer on = record {
     cells = on.cells;
     first = before_front file.words file.format file.grid.depth from on.cells on.before;
-    front = on.pushed.front;
+    front = on.pushed.holds.front;
   }
 
   -- behind the last cell
@@ -194,34 +142,9 @@ module _ {O : Type 0} {g : Ghosts O} where
       → PushesOn file start from queues writer → PushesAll file start queues writer
   pushes_all file start from queues writer high none on = record {
     cells = on.cells;
-    pushed = record {
-      below = below_later from (8 ^ file.grid.depth) on.cells high on.pushed.below;
-      front = on.pushed.front;
-      queued = on.pushed.queued;
-      records = on.pushed.records;
-      depth = on.pushed.depth;
-      last = λ some. omega (arith, on.pushed.last some, high);
-    };
+    pushed = pushed_to file.grid start from (8 ^ file.grid.depth) on.cells queues writer high on.pushed;
     whole = before_whole file.words file.format file.grid.depth from on.cells none on.before;
   }
-
--- ---- before the first cell
-
-pub none_pushed : {O : Type 0} {g : Ghosts O} (grid : GridShape) (start : Option (List ℕ)) (queues : LevelQueues) (writer : NodeWriter O g)
-    → IsQueued [] queues [] → queues.depth ≡ grid.depth → given writer ≡ append_known start (header_of 2 grid) → g.written writer.sink.now ≡ start → writer.records ≡ 0
-    → HasPushed grid start 0 [] queues writer
-none_pushed {g = g} grid start queues writer queued deep begun unwritten none = record {
-  below = record {
-    ascending = λ k within. absurd (omega (arith, within));
-    inside = All-nil (λ (cell : Cell). cell.code < 0);
-    faces = All-nil (λ (cell : Cell). cell.face ≤ 2 ^ 32 - 2);
-  };
-  front = front_begun grid start (g.written writer.sink.now) unwritten;
-  queued = subst (λ told. GoesOn [] told (given writer) (IsQueued [] queues)) begun (goes_nowhere [] (given writer) (IsQueued [] queues) queued);
-  records = none ∙ sym queued.count;
-  depth = deep;
-  last = λ some. absurd (omega (arith, some, queued.cells));
-}
 
 -- ---- moves
 
@@ -273,7 +196,7 @@ module _ {O : Type 0} {g : Ghosts O} (file : FileView) (start : Option (List ℕ
       → GrewByFront start after (image_of 2 file.grid all.cells)
   all_ended after front =
       front_ended file.grid all.cells all.pushed.queued.more (waiting writer) start (g.written writer.sink.now) after queues.depth
-      (front_now file.grid all.cells start (g.written writer.sink.now) (record { ascending = all.pushed.below.ascending; inside = all.pushed.below.inside }) all.pushed.front)
+      (front_now file.grid all.cells start (g.written writer.sink.now) (record { ascending = all.pushed.holds.below.ascending; inside = all.pushed.holds.below.inside }) all.pushed.holds.front)
       all.pushed.queued.grown all.pushed.depth (front all.cells all.pushed.queued.more all.pushed.queued.holds)
 
   -- the last words were refused

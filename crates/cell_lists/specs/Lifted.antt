@@ -13,15 +13,9 @@ use Rattle.node_file.specs.Writing.{given}
 use Rattle.node_check.specs.declared.stops.AnswerStop.{AnswerStop}
 use Rattle.node_check.specs.declared.stops.AnswerStop.TheVariants.{WriteFault, Walk}
 use Rattle.node_check.specs.declared.walking.WalkFault.TheVariants.{Failed, Refused}
-use Rattle.level_queues.specs.Pushed.{IsQueued, GoesOn}
+use Rattle.level_queues.specs.PushedFiles.{HasPushed}
 use Rattle.level_queues.specs.Fronts.{HoldsFront}
 use Rattle.level_queues.specs.declared.levels.LevelQueues.{LevelQueues}
-
--- in ascending order of their codes, which are below a bound
-pub record AreBelow (bound : ℕ) (cells : List Cell) : Type 0 where
-  pub ascending : IsStrictlyIncreasing (codes_of cells)
-  pub inside : All (λ cell. cell.code < bound) cells
-  pub faces : All (λ cell. cell.face ≤ 2 ^ 32 - 2) cells
 
 -- of a file whose words are told: these are a front of the cells for which they stand
 abbrev pub AreFirst : FileView → List Cell → Type 0
@@ -32,15 +26,6 @@ abbrev pub AreWhole : FileView → List Cell → Type 0
 AreWhole file cells = IfSome file.words (λ words. (all : List Cell) → StandFor file.format file.grid.depth words all → cells ≡ all)
 
 module _ {O : Type 0} {g : Ghosts O} where
-  -- these cells were pushed, and their words given to a writer that was begun when its sink held `start`; the sink holds a front of their file, whatever cells follow
-  pub record HasPushed (grid : GridShape) (start : Option (List ℕ)) (bound : ℕ) (cells : List Cell) (queues : LevelQueues) (writer : NodeWriter O g) : Type 0 where
-    pub below : AreBelow bound cells
-    pub front : HoldsFront grid cells start (g.written writer.sink.now)
-    pub queued : GoesOn [] (append_known start (header_of 2 grid)) (given writer) (IsQueued cells queues)
-    pub records : writer.records ≡ queues.words
-    pub depth : queues.depth ≡ grid.depth
-    pub last : 0 < queues.cells → queues.last < bound
-
   -- all cells of a file were pushed
   pub record PushesAll (file : FileView) (start : Option (List ℕ)) (queues : LevelQueues) (writer : NodeWriter O g) : Type 0 where
     pub cells : List Cell

@@ -5,7 +5,8 @@ ghost use Rattle.octree_specs.specs.Cells.{Cell};
 ghost use Rattle.octree_specs.specs.Formats.{StandFor};
 ghost use Rattle.node_check.specs.Cursors.{IsOn};
 ghost use Rattle.node_check.specs.Stops.{StopsAtNoCell, HasStopCause};
-ghost use Rattle.cell_lists.specs.Lifted.{HasPushed, PushesAll, HoldsFirst, IsUnrefused};
+ghost use Rattle.level_queues.specs.PushedFiles.{HasPushed};
+ghost use Rattle.cell_lists.specs.Lifted.{PushesAll, HoldsFirst, IsUnrefused};
 
 use dev_traits::ByteSink;
 use level_queues::LevelQueues;

@@ -16,5 +16,6 @@ pub mod Grown
 pub mod Ending
 pub mod WholeFile
 pub mod FileFronts
+pub mod PushedFiles
 pub mod PairedCells
 pub mod Digits

@@ -2,3 +2,4 @@ pub mod GivenWords
 pub mod Queued
 pub mod Pushed
 pub mod Fronts
+pub mod PushedFiles

@@ -9,3 +9,4 @@ pub mod ReachedOctants
 pub mod OtherOctants
 pub mod SmallerNodes
 pub mod TakenParcels
+pub mod CellBoxes

@@ -8,12 +8,12 @@ use Rattle.std.proofs.lemmas.List.Elements.{All-get_or}
 use Rattle.svo_base.specs.GridShape.{GridShape, IsGrid}
 use Rattle.svo_base.specs.declared.shapes.Cube.{Cube}
 use Rattle.octree_specs.specs.Meeting.{HasPlanes, low_of}
-use Rattle.octree_specs.specs.NodeCube.{coordinate_of, side_of, low_plane, node_cube}
+use Rattle.octree_specs.specs.NodeCube.{code_of, coordinate_of, side_of, low_plane, node_cube}
 use Rattle.morton_scan.specs.declared.nodes.Node.{Node}
 use Rattle.morton_scan.specs.Nodes.{IsNode}
 use Rattle.morton_scan.proofs.Levels.{child_below}
 use Rattle.morton_code.proofs.Children.{halves_coordinates}
-use Rattle.morton_code.proofs.Coordinates.{coordinate_in_level, coordinate_of_short}
+use Rattle.morton_code.proofs.Coordinates.{code_below, code_of_short, coordinate_in_level, coordinate_of_short, x_of_code, y_of_code, z_of_code}
 use Rattle.morton_code.proofs.Sides.{shifted_side, side_within, width_of_level, ends_within, plane_kept, all_of_three, is_shallow}
 
 -- the side of a cube at a height, by a shift
@@ -147,3 +147,42 @@ child_is_node grid node octant side bit_x bit_y bit_z x y z u v w limits is abov
       is_cube = cube;
       planes = subst HasPlanes (sym cube) (cube_near grid level code limits within below);
     }
+
+-- ---- the cube of a cell, by its places along the axes
+
+-- its lower plane along an axis
+cell_low : (grid : GridShape) (axis place code : ℕ) (x : ℤ) → coordinate_of axis grid.depth code ≡ place → x ≡ get_or grid.origin axis (pos 0) +ℤ pos (grid.cell * place) → x ≡ low_plane grid grid.depth code axis
+cell_low grid axis place code x is_place is_x =
+    let none : grid.depth - grid.depth ≡ 0 = omega arith in
+    let once : grid.cell * place ≡ grid.cell * 2 ^ 0 * place = omega arith in
+    rw (none, is_place, ← once) is_x
+
+pub cell_is_kept : (grid : GridShape) (at_x at_y at_z side : ℕ) (x y z u v w : ℤ) → IsGrid grid → at_x < 2 ^ grid.depth → at_y < 2 ^ grid.depth → at_z < 2 ^ grid.depth → side ≡ grid.cell * 2 ^ 0
+    → x ≡ get_or grid.origin 0 (pos 0) +ℤ pos (grid.cell * at_x) → y ≡ get_or grid.origin 1 (pos 0) +ℤ pos (grid.cell * at_y) → z ≡ get_or grid.origin 2 (pos 0) +ℤ pos (grid.cell * at_z)
+    → u ≡ to_z w64 (of_z w64 x) +ℤ pos (side * 1) → v ≡ to_z w64 (of_z w64 y) +ℤ pos (side * 1) → w ≡ to_z w64 (of_z w64 z) +ℤ pos (side * 1)
+    → let cube : Cube = record { lo = to_z w64 (of_z w64 x) ∷ to_z w64 (of_z w64 y) ∷ to_z w64 (of_z w64 z) ∷ []; hi = to_z w64 (of_z w64 u) ∷ to_z w64 (of_z w64 v) ∷ to_z w64 (of_z w64 w) ∷ [] } in
+    cube ≡ node_cube grid grid.depth (code_of 20 at_x at_y at_z)
+cell_is_kept grid at_x at_y at_z side x y z u v w limits in_x in_y in_z is_side is_x is_y is_z is_u is_v is_w =
+    let level : ℕ = grid.depth in
+    let shallow : level ≤ 20 = is_shallow grid level limits (omega arith) in
+    let short = code_of_short level 20 at_x at_y at_z shallow in_x in_y in_z in
+    let code : ℕ = code_of level at_x at_y at_z in
+    let below : code < 8 ^ level = code_below level at_x at_y at_z in
+    let none : level - level ≡ 0 = omega arith in
+    let side_is : side ≡ side_of grid level = rw none is_side in
+    let x_is = cell_low grid 0 at_x code x (x_of_code level at_x at_y at_z in_x) is_x in
+    let y_is = cell_low grid 1 at_y code y (y_of_code level at_x at_y at_z in_y) is_y in
+    let z_is = cell_low grid 2 at_z code z (z_of_code level at_x at_y at_z in_z) is_z in
+    let u_is = upper_of_child grid level code 0 side x u limits (omega arith) below (omega arith) side_is x_is is_u in
+    let v_is = upper_of_child grid level code 1 side y v limits (omega arith) below (omega arith) side_is y_is is_v in
+    let w_is = upper_of_child grid level code 2 side z w limits (omega arith) below (omega arith) side_is z_is is_w in
+    rw short (cube_kept grid level code x y z u v w limits (omega arith) below x_is y_is z_is u_is v_is w_is)
+
+-- and its planes are near
+pub cell_near : (grid : GridShape) (at_x at_y at_z : ℕ) (cube : Cube) → IsGrid grid → at_x < 2 ^ grid.depth → at_y < 2 ^ grid.depth → at_z < 2 ^ grid.depth
+    → cube ≡ node_cube grid grid.depth (code_of 20 at_x at_y at_z) → HasPlanes cube
+cell_near grid at_x at_y at_z cube limits in_x in_y in_z is =
+    let shallow : grid.depth ≤ 20 = is_shallow grid grid.depth limits (omega arith) in
+    let short = code_of_short grid.depth 20 at_x at_y at_z shallow in_x in_y in_z in
+    let below : code_of 20 at_x at_y at_z < 8 ^ grid.depth = rw short (code_below grid.depth at_x at_y at_z) in
+    subst HasPlanes (sym is) (cube_near grid grid.depth (code_of 20 at_x at_y at_z) limits (omega arith) below)

@@ -1,5 +1,5 @@
 -- A face put into the slots of some cells and then of others.
-use Rattle.std.proofs.Common.{◌≡◌, ℕ, suc, ◌+◌, ◌-◌, ◌*◌, ◌/◌, ◌^◌, ◌<◌, ◌≤◌, List, length, get_or, set, arith, refl, sym, ap, subst, ◌∙◌, get_or-set_same, get_or-set_other, ⊎_elim}
+use Rattle.std.proofs.Common.{◌≡◌, ℕ, suc, ◌+◌, ◌-◌, ◌*◌, ◌/◌, ◌^◌, ◌<◌, ◌≤◌, List, length, get_or, set, arith, refl, sym, ap, subst, ◌∙◌, get_or-set_same, get_or-set_other, ⊎_elim, inl, inr, ◌⊎◌}
 use Rattle.std.proofs.lemmas.Bool.{cases_lt}
 use Rattle.std.proofs.Math.Nat.{pow-suc, div-div-eq-div-mul}
 use Rattle.svo_base.specs.GridShape.{GridShape}
@@ -40,22 +40,60 @@ put_cell grid t code first face old new from within met is = record {
       rw is (get_or-set_other old (code - first) place (lesser_slot (get_or old (code - first) 0) face) 0 apart);
 }
 
+-- the codes of one choice are those of two others, which have none in common
+pub record Joins (P Q R : ℕ → Type 0) : Type 0 where
+  pub either : (code : ℕ) → R code → P code ⊎ Q code
+  pub one : (code : ℕ) → P code → R code
+  pub other : (code : ℕ) → Q code → R code
+  pub apart : (code : ℕ) → P code → Q code → ⊥
+
+-- a face that is put into one choice and then into another is put into both
+pub put_joined : (P Q R : ℕ → Type 0) (first face : ℕ) (old middle new : List ℕ) → Joins P Q R → ArePut P first face old middle → ArePut Q first face middle new → ArePut R first face old new
+put_joined P Q R first face old middle new joins before then = record {
+  put = λ place chosen.
+      ⊎_elim
+      (λ one. then.others place (λ other. joins.apart (first + place) one other) ∙ before.put place one)
+      (λ other. then.put place other ∙ ap (λ slot. lesser_slot slot face) (before.others place (λ one. joins.apart (first + place) one other)))
+      (joins.either (first + place) chosen);
+  others = λ place not_chosen.
+      then.others place (λ other. not_chosen (joins.other (first + place) other)) ∙ before.others place (λ one. not_chosen (joins.one (first + place) one));
+}
+
+-- of the chosen codes, those that a number of theirs puts into a range
+abbrev pub Keyed : (ℕ → ℕ) → ℕ → ℕ → (ℕ → Type 0) → ℕ → Type 0
+Keyed key from to Chosen code = (from ≤ key code) × ((key code < to) × Chosen code)
+
+-- a range that grows by one
+pub range_grows : (key : ℕ → ℕ) (from at : ℕ) (Chosen : ℕ → Type 0) → from ≤ at → Joins (Keyed key from at Chosen) (Keyed key at (at + 1) Chosen) (Keyed key from (at + 1) Chosen)
+range_grows key from at Chosen row = record {
+  either = λ code chosen. elim (cases_lt (key code) at) [
+    | inl below ↦ inl (chosen.0, (below, chosen.1.1))
+    | inr above ↦ inr (above, (chosen.1.0, chosen.1.1))
+  ];
+  one = λ code chosen. (chosen.0, (omega (arith, chosen.1.0), chosen.1.1));
+  other = λ code chosen. (omega (arith, chosen.0, row), (chosen.1.0, chosen.1.1));
+  apart = λ code one other. absurd (omega (arith, one.1.0, other.0));
+}
+
+-- two choices are joined within a range too
+pub joined_within : (key : ℕ → ℕ) (from to : ℕ) (P Q R : ℕ → Type 0) → Joins P Q R → Joins (Keyed key from to P) (Keyed key from to Q) (Keyed key from to R)
+joined_within key from to P Q R joins = record {
+  either = λ code chosen. elim (joins.either code chosen.1.1) [
+    | inl one ↦ inl (chosen.0, (chosen.1.0, one))
+    | inr other ↦ inr (chosen.0, (chosen.1.0, other))
+  ];
+  one = λ code chosen. (chosen.0, (chosen.1.0, joins.one code chosen.1.1));
+  other = λ code chosen. (chosen.0, (chosen.1.0, joins.other code chosen.1.1));
+  apart = λ code one other. joins.apart code one.1.1 other.1.1;
+}
+
 -- a node is passed after those before it
 pub put_next : (grid : GridShape) (t : Triangle) (height from to first face : ℕ) (old middle new : List ℕ) → from ≤ to
     → ArePut (MetUnder grid t height from to) first face old middle → ArePut (MetUnder grid t height to (to + 1)) first face middle new
     → ArePut (MetUnder grid t height from (to + 1)) first face old new
-put_next grid t height from to first face old middle new row before then = record {
-  put = λ place chosen.
-      let low = chosen.0 in
-      let high = chosen.1.0 in
-      ⊎_elim
-      (λ below. then.others place (λ later. absurd (omega (arith, below, later.0))) ∙ before.put place (low, (below, chosen.1.1)))
-      (λ above. then.put place (above, (high, chosen.1.1)) ∙ ap (λ slot. lesser_slot slot face) (before.others place (λ earlier. absurd (omega (arith, above, earlier.1.0)))))
-      (cases_lt ((first + place) / 8 ^ height) to);
-  others = λ place not_chosen.
-      then.others place (λ later. not_chosen (omega (arith, later.0, row), later.1))
-      ∙ before.others place (λ earlier. not_chosen (earlier.0, (omega (arith, earlier.1.0), earlier.1.1)));
-}
+put_next grid t height from to first face old middle new row before then =
+    put_joined (MetUnder grid t height from to) (MetUnder grid t height to (to + 1)) (MetUnder grid t height from (to + 1)) first face old middle new
+    (range_grows (λ code. code / 8 ^ height) from to (λ code. Meets t (node_cube grid grid.depth code)) row) before then
 
 -- no node is passed yet
 pub put_no_node : (grid : GridShape) (t : Triangle) (height from first face : ℕ) (slots : List ℕ) → ArePut (MetUnder grid t height from from) first face slots slots

@@ -18,7 +18,7 @@ use Rattle.morton_scan.proofs.NodesBelow.{put_unmet}
 use Rattle.morton_scan.proofs.Putting.{one_higher, put_child, same_put}
 
 -- one number of a sum
-one_of_sum : (f : ℕ → ℕ) (from count at : ℕ) → at < count → f (from + at) ≤ sum_by f (range_with_len from count)
+pub one_of_sum : (f : ℕ → ℕ) (from count at : ℕ) → at < count → f (from + at) ≤ sum_by f (range_with_len from count)
 one_of_sum f from zero at below = absurd (omega (arith, below))
 one_of_sum f from (suc count) zero below =
     let e : from + 0 ≡ from = omega arith in

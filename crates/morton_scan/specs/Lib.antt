@@ -4,3 +4,4 @@ pub mod NextCells
 pub mod FilledParts
 pub mod Reaching
 pub mod Narrowing
+pub mod CellBoxes

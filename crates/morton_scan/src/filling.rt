@@ -7,13 +7,19 @@ ghost use Rattle.svo_base.specs.Boxes.{bounds_of};
 ghost use Rattle.morton_scan.specs.Nodes.{IsNode, HasSlots};
 ghost use Rattle.morton_scan.specs.Putting.{ArePut, MeetsInPart, MetUnder, first_of_part};
 
+use crate::box_filling::fill_few;
+use crate::cell_boxes::CellBox;
 use crate::narrowing::{narrowed, reached_octants};
 use crate::nodes::Node;
+use crate::put::Put;
 use crate::reaching::bounds_reach;
 use bit_grid::{TouchedBlocks, put_touched};
 use std::sync::ledger::Ledger;
 use svo_base::{Bounds, Grid, Steps, Triangle};
 use tri_cube::PreparedTriangle;
+
+/// So many cells for each level below a node are few.
+const CELLS_A_LEVEL: u64 = 8;
 
 /// Puts a face into the slots of all cells of a part that its triangle meets; all other slots stay.
 /// The part is a node of level `split`, and slot `place` is that of the part's cell with `place`
@@ -71,7 +77,7 @@ pub fn fill_touched<L: Ledger>(
         face,
         first: first_code(grid, split, part),
     };
-    fill_node(grid, &node, &put, slots, blocks, tests);
+    fill_under(grid, &node, &put, slots, blocks, tests);
 }
 
 /// The code of a part's first cell.
@@ -83,14 +89,31 @@ fn first_code(grid: &Grid, split: u32, part: u32) -> u64
     u64::from(part) << (3 * (grid.depth() - split))
 }
 
-/// What is put into slots: a triangle with its box, and its face. The first slot is that of the cell
-/// with the code `first`.
-#[derive(Drop)]
-struct Put {
-    triangle: PreparedTriangle,
-    bounds: Bounds,
-    face: u32,
-    first: u64,
+/// Puts a face into the slots of the cells under a node that its triangle meets: one by one where its
+/// box reaches few of them, else by walking down.
+fn fill_under<L: Ledger>(
+    grid: &Grid,
+    node: &Node,
+    put: &Put,
+    slots: &mut [u32],
+    blocks: &mut TouchedBlocks,
+    tests: &mut Steps<L>,
+)
+    requires node { IsNode grid.now node.now }
+    requires face { put.now.face + 1 < 2 ^ 32 }
+    requires bounds { put.now.bounds ≡ bounds_of put.now.triangle }
+    requires slots { HasSlots put.now.first (length slots.old) node.now.height node.now.code }
+    requires touched { AreTouched slots.old blocks.old }
+    ensures slots { ArePut (MetUnder grid.now put.now.triangle node.now.height node.now.code (node.now.code + 1)) put.now.first put.now.face slots.old slots.new }
+    ensures touched { AreTouched slots.new blocks.new }
+    ensures tests { (test : ℕ → ℕ → Bool) → PassWhereMet grid.now put.now.triangle test → tests.new ≤ tests.old + 1 + 8 * passing test node.now.height node.now.code }
+{
+    let cells = CellBox::new(grid, node, &put.bounds);
+    if cells.count() > CELLS_A_LEVEL * u64::from(node.height) {
+        fill_node(grid, node, put, slots, blocks, tests);
+        return;
+    }
+    fill_few(grid, node, &cells, put, slots, blocks, tests);
 }
 
 /// Puts a face into the slots of the cells under a node that its triangle meets. The smallest node

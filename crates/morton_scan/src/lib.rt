@@ -3,6 +3,8 @@
 //! Karras 2010; Schwarz, Seidel 2010).
 #![tactic(auto)]
 
+mod box_filling;
+mod cell_boxes;
 mod cells;
 mod filling;
 mod laws;
@@ -11,6 +13,7 @@ mod nodes;
 mod octants;
 mod part_slots;
 mod parts;
+mod put;
 mod reaching;
 
 pub use cells::{FilledCell, next_code};

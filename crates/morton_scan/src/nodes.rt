@@ -58,7 +58,7 @@ impl Node {
 }
 
 /// The side of a cube that stands so many levels above the cells.
-fn side(grid: &Grid, height: u32) -> u64
+pub fn side(grid: &Grid, height: u32) -> u64
     requires { height ≤ grid.now.depth }
     ensures value { result ≡ grid.now.cell * 2 ^ height }
     ensures narrow { result ≤ 2 ^ 32 }
@@ -68,7 +68,7 @@ fn side(grid: &Grid, height: u32) -> u64
 }
 
 /// The plane that lies a number of sides above another: none or one.
-fn plane(low: i64, sides: u64, side: u64) -> i64
+pub fn plane(low: i64, sides: u64, side: u64) -> i64
     requires near { unsigned_abs low ≤ 2 ^ 34 }
     requires sides { sides < 2 }
     requires narrow { side ≤ 2 ^ 32 }

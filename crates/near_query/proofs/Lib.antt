@@ -1,6 +1,5 @@
 mod ChildPlanes
 mod Codes
-mod Costs
 mod Covering
 mod Farther
 mod Halving

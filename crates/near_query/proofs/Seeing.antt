@@ -25,7 +25,7 @@ use Rattle.node_check.specs.declared.walking.WalkFault.{WalkFault}
 use Rattle.near_query.specs.declared.cells.NearCell.{NearCell}
 use Rattle.near_query.specs.declared.queues.Waiting.{Waiting}
 use Rattle.near_query.specs.declared.steps.Step.TheVariants.{Skip, Take, Enter}
-use Rattle.near_query.proofs.Costs.{count_by_children, cost_grows, first_cost, no_cost, one_more}
+use Rattle.ray_walk.proofs.Costs.{count_by_children, first_cost_grows, first_cost, no_cost, one_more}
 use Rattle.near_query.proofs.Farther.{cell_farther}
 use Rattle.near_query.proofs.Trees.{bit_tells, cell_above, child_leads}
 
@@ -130,7 +130,7 @@ module _ (words : List ℕ) (cells : List Cell) (point : List ℤ) (grid : GridS
             covers = λ code filled. sees best best now now (IsAhead node place) (IsAhead node (place + 1)) code inl (λ waits. inr (inl waits))
                 (λ ahead. ⊎_elim (λ under. inl (beats code filled under)) (λ rest. inr (inr rest)) (ahead_split node place code above ahead)) (moved.covers code filled);
           };
-      fewer = λ test. omega (arith, told.fewer test, cost_grows test cells (node.height - 1) node.code place);
+      fewer = λ test. omega (arith, told.fewer test, first_cost_grows test cells (node.height - 1) node.code place);
     }
 
     skip_beats : (word place : ℕ) (best : Option NearCell) → IsOnTree words cells node word → IsNode point grid node → place < 8 → IsStep point grid node word place best Skip
@@ -177,7 +177,7 @@ module _ (words : List ℕ) (cells : List Cell) (point : List ℤ) (grid : GridS
                     (λ under. inl (itself cell code (code_is ∙ (sym under ∙ (ap (λ h. code / 8 ^ h) none ∙ whole code))) found.at))
                     (λ rest. inr (inr rest)) (ahead_split node place code is.above ahead)) (moved.covers code filled);
               };
-          fewer = λ test. omega (arith, told.fewer test, cost_grows test cells (node.height - 1) node.code place);
+          fewer = λ test. omega (arith, told.fewer test, first_cost_grows test cells (node.height - 1) node.code place);
         }
       where
         whole : (code : ℕ) → code / 8 ^ 0 ≡ code

@@ -12,8 +12,9 @@ use crate::cells::{NearCell, NearFault};
 use crate::measures::Measure;
 use crate::queues::{Queue, Waiting};
 use crate::steps::is_nearer;
-use crate::walking::{read, visit};
+use crate::walking::visit;
 use node_file::Records;
+use ray_walk::read_word;
 use std::alloc::Global;
 use std::sync::ledger::Ledger;
 use svo_base::Steps;
@@ -67,7 +68,7 @@ impl Search {
             if is_nearer(best, node.distance) {
                 break;
             }
-            let word = read(nodes, node.number, reads)?;
+            let word = read_word(nodes, node.number, reads)?;
             best = visit(&measure, &node, word, best, &mut self.waiting)?;
         }
         Ok(best)

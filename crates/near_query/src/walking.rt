@@ -1,9 +1,7 @@
-//! The walk from node to node.
+//! What is found right under a node.
 
 ghost use Rattle.std.specs.Prelude.{◌≡◌, ℕ, ◌+◌, ◌<◌, ◌≤◌, ◌^◌, All, List, IfOk, IfSome, OnOk};
 ghost use Rattle.std.specs.Result.{IfErr};
-ghost use Rattle.dev_traits.specs.Faults.{Rose};
-ghost use Rattle.node_file.specs.Told.{GivesWord};
 ghost use Rattle.svo_base.specs.GridShape.{IsGrid};
 ghost use Rattle.octree_specs.specs.Cells.{Cell};
 ghost use Rattle.near_query.specs.Distances.{IsPoint};
@@ -15,10 +13,6 @@ use crate::cells::{NearCell, NearFault};
 use crate::measures::Measure;
 use crate::queues::{Queue, Waiting};
 use crate::steps::{Step, next};
-use node_check::WalkFault;
-use node_file::Records;
-use std::sync::ledger::Ledger;
-use svo_base::Steps;
 
 /// The best of the cell that is known and of those right under a node, of which this is the word. Its
 /// children above the cells are put among those that wait, where no cell that is known is nearer.
@@ -51,25 +45,4 @@ pub fn visit(
         }
     }
     Ok(best)
-}
-
-/// The word of a number.
-pub fn read<R: Records, L: Ledger>(
-    nodes: &mut R,
-    number: u64,
-    reads: &mut Steps<L>,
-) -> Result<u64, WalkFault>
-    requires { number < (R.file nodes.old).totals.records }
-    ensures word { GivesWord (R.file nodes.old).words number result }
-    ensures cause { IfErr result (λ fault. (fault ≡ WalkFault.Failed) × Rose (R.faults nodes.old) (R.faults nodes.new)) }
-    ensures later { R.faults nodes.old ≤ R.faults nodes.new }
-    ensures reads { reads.new ≡ reads.old + 1 }
-    ensures looked { R.looked nodes.new ≤ R.looked nodes.old + 1 }
-    ensures same { R.file nodes.new ≡ R.file nodes.old }
-    ensures lender { R.lender nodes.new ≡ R.lender nodes.old }
-{
-    match nodes.word(number, reads) {
-        Ok(word) => Ok(word),
-        Err(_) => Err(WalkFault::Failed),
-    }
 }

@@ -7,6 +7,8 @@ mod block_cache_tests;
 #[cfg(test)]
 mod cell_lists_tests;
 #[cfg(test)]
+mod made_cells;
+#[cfg(test)]
 mod node_check_store_tests;
 #[cfg(test)]
 mod node_check_tests;

@@ -2,6 +2,7 @@
 
 ghost use Rattle.std.specs.Prelude.{◌≡◌, ◌<◌, ◌≤◌, ◌^◌, length};
 
+use crate::made_cells::{put_words, some_cells};
 use dev_traits::{MemSink, PartFail};
 use node_check::{WalkFault, has};
 use node_file::LentWords;
@@ -184,59 +185,6 @@ fn plain_picture(alloc: Global, case: &Case, header: &[u8]) -> Result<Vec<u8>, A
     Ok(picture)
 }
 
-/// The next of some numbers, of which each is made from the one before.
-fn next_number(seed: &mut u64) -> u64 {
-    *seed = seed
-        .wrapping_mul(6_364_136_223_846_793_005)
-        .wrapping_add(1_442_695_040_888_963_407);
-    *seed >> 33
-}
-
-/// Some cells of a depth in ascending order, one in so many.
-fn some_cells(alloc: Global, depth: u32, one_in: u64) -> Result<Vec<u64>, AllocError>
-    requires depth { depth ≤ 12 }
-    requires some { 0 < one_in }
-{
-    let mut seed = 1;
-    let mut codes = Vec::new(alloc);
-    for code in 0..1u64 << (3 * depth) {
-        if next_number(&mut seed) % one_in == 0 {
-            codes.push(code)?;
-        }
-    }
-    Ok(codes)
-}
-
-/// The word of a node in format 2, once the words below it are added behind those so far.
-fn put_words(
-    alloc: Global,
-    words: &mut Vec<u64>,
-    codes: &[u64],
-    height: u32,
-    node: u64,
-) -> Result<u64, AllocError>
-    requires { height ≤ 12 }
-{
-    if height == 0 {
-        return Ok(1);
-    }
-    let mut mask = 0;
-    let mut children = Vec::new(alloc);
-    for octant in 0..8 {
-        let child = node.wrapping_mul(8).wrapping_add(octant);
-        if codes
-            .iter()
-            .any(|code| *code >> (3 * (height - 1)) == child)
-        {
-            children.push(put_words(alloc, words, codes, height - 1, child)?)?;
-            mask |= 1 << octant;
-        }
-    }
-    let base = words.len() as u64;
-    words.extend_from_slice(children.as_slice())?;
-    Ok(base.wrapping_mul(256) | mask)
-}
-
 /// Grids and headers of their slices, with how many cells there are for each filled one. The slices of
 /// the last have four bands.
 const GRIDS: &[(i64, u64, &'static [u8])] = &[
@@ -252,7 +200,8 @@ fn slices_by_the_plain_program(rt: HostRuntime) {
         let grid = Grid::new(depth, [-2, 0, 1], 2).expect(&rt, "a grid");
         let depth = grid.depth();
         assert!(rt; one_in > 0, "some cells");
-        let codes = some_cells(rt.alloc(), depth, one_in).expect(&rt, "memory");
+        let mut seed = 1;
+        let codes = some_cells(rt.alloc(), depth, one_in, &mut seed).expect(&rt, "memory");
         let mut words = Vec::new(rt.alloc());
         let root = put_words(rt.alloc(), &mut words, codes.as_slice(), depth, 0).expect(
             &rt, "memory",

@@ -16,7 +16,7 @@ module _ (test : ℕ → ℕ → Bool) (cells : List Cell) (height node : ℕ) w
   cost_of place = cond (is_nonempty (face_leaves cells) height (8 * node + place)) (count_of test cells height (8 * node + place)) 0
 
   -- under the children at the first places
-  first_cost : ℕ → ℕ
+  pub first_cost : ℕ → ℕ
   first_cost zero = 0
   first_cost (suc count) = first_cost count + cost_of count
 
@@ -36,6 +36,25 @@ module _ (test : ℕ → ℕ → Bool) (cells : List Cell) (height node : ℕ) w
             ∙ (ap (λ nodes. sum_by (count_of test cells height) nodes) (one_out (face_leaves cells) height node count none)
             ∙ rw (none, sum_first count) (omega arith))
       ]
+
+  pub no_cost : first_cost 0 ≡ 0
+  unfolding first_cost
+  no_cost = refl
+
+  -- one child more, whether it is nonempty or not
+  pub first_cost_grows : (place : ℕ) → first_cost place ≤ first_cost (place + 1)
+  unfolding first_cost
+  first_cost_grows place = let up : place + 1 ≡ suc place = omega arith in rw up (omega arith)
+
+  pub one_more : (place : ℕ) → is_nonempty (face_leaves cells) height (8 * node + place) ≡ true → first_cost (place + 1) ≡ first_cost place + count_of test cells height (8 * node + place)
+  unfolding first_cost cost_of
+  one_more place some = let up : place + 1 ≡ suc place = omega arith in rw up (rw some refl)
+
+  pub count_by_children : count_of test cells (height + 1) node ≡ cond (test (height + 1) node) 1 0 + first_cost 8
+  count_by_children =
+      let up : height + 1 ≡ suc height = omega arith in
+      let all : sum_by (count_of test cells height) (children_of (face_leaves cells) height node) ≡ first_cost 8 = sum_first 8 in
+      rw (up, all) refl
 
 -- of so many children in the order in which they are visited
 pub cost_before : (test : ℕ → ℕ → Bool) (cells : List Cell) (height node turn : ℕ) → ℕ → ℕ

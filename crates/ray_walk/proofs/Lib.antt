@@ -1,4 +1,4 @@
-mod Costs
+pub mod Costs
 mod FirstHits
 mod MetCells
 mod NextSteps

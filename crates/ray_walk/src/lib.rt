@@ -12,3 +12,4 @@ mod walking;
 
 pub use casting::cast;
 pub use hits::Hit;
+pub use walking::read_word;

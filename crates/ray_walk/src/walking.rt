@@ -38,7 +38,7 @@ pub fn walk<R: Records, L: Ledger>(
     ensures same { R.file nodes.new ≡ R.file nodes.old }
     ensures lender { R.lender nodes.new ≡ R.lender nodes.old }
 {
-    let word = read(nodes, spot.number, reads)?;
+    let word = read_word(nodes, spot.number, reads)?;
     let mut best = known;
     for k in 0..8 {
         match next(flight, spot, word, k, best)? {
@@ -50,8 +50,11 @@ pub fn walk<R: Records, L: Ledger>(
     Ok(best)
 }
 
-/// The word of a number.
-fn read<R: Records, L: Ledger>(
+/// The word of a number, for walks.
+///
+/// # Errors
+/// `Failed`: the read failed, where a fault was counted.
+pub fn read_word<R: Records, L: Ledger>(
     nodes: &mut R,
     number: u64,
     reads: &mut Steps<L>,

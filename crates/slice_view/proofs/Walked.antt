@@ -11,6 +11,7 @@ use Rattle.octree_laws.proofs.Under.{empty_below}
 use Rattle.node_check.specs.Walks.{face_at, has_child, IsWordOf, LeadsOn}
 use Rattle.node_check.specs.declared.walking.WalkFault.{WalkFault}
 use Rattle.node_check.specs.declared.walking.WalkFault.TheVariants.{Failed, Refused}
+use Rattle.node_check.proofs.NextCells.{below_leads}
 use Rattle.node_check.proofs.Walks.{none_at, filled_is, mask_at, child_leads}
 use Rattle.slice_view.specs.Bands.{IsBand, IsSquare, ArePainted, PaintsUnder, band_size, cell_of, crosses}
 use Rattle.slice_view.specs.declared.bands.Band.{Band}
@@ -88,19 +89,6 @@ module _ (band : Band) (format records code number word : ℕ) where
       subst (λ end. ArePainted band cells (suc height - 1) (8 * code) end old (set new (sample_number band child) 255)) next
       (painted_next band cells (suc height - 1) (8 * code) (8 * code + place) (8 * code + place + 1) old new (set new (sample_number band child) 255) (omega arith) (omega arith) (before cells leads) there)
 
-  -- the child that was walked to
-  below_leads : (words : List ℕ) (cells : List Cell) (height place next : ℕ) → 1 < height → place < 8 → word ≡ slice_index words number → has_child word place ≡ true → next ≡ child_number word place
-      → LeadsOn words format cells height code number → (child_number word place < number) × LeadsOn words format cells (height - 1) (8 * code + place) next
-  below_leads words cells zero place next high octant own bit is leads = absurd (omega (arith, high))
-  below_leads words cells (suc zero) place next high octant own bit is leads = absurd (omega (arith, high))
-  below_leads words cells (suc (suc height)) place next high octant own bit is leads =
-      let down : suc (suc height) - 1 ≡ suc height = omega arith in
-      let there : (child_number (slice_index words number) place < number) × LeadsOn words format cells (suc height) (8 * code + place) (child_number (slice_index words number) place) =
-      child_leads words format cells height code number place leads octant (subst (λ w. has_child w place ≡ true) own bit) in
-      let same : (child_number word place < number) × LeadsOn words format cells (suc height) (8 * code + place) (child_number word place) =
-      subst (λ w. (child_number w place < number) × LeadsOn words format cells (suc height) (8 * code + place) (child_number w place)) (sym own) there in
-      (same.0, subst (λ h. LeadsOn words format cells h (8 * code + place) next) (sym down) (subst (LeadsOn words format cells (suc height) (8 * code + place)) (sym is) same.1))
-
   pub node_added : (told : Option (List ℕ)) (height place next : ℕ) (child : Square) (old mid new : List ℕ) → IsChild band height code place child → 1 < height → IsWordOf told records number word
       → (has_child word place && crosses band child) ≡ true → next ≡ child_number word place → Under told band format child.height child.code next mid new (Ok tt)
       → Painted told band format height code number old mid (8 * code + place) → Painted told band format height code number old new (8 * code + (place + 1))
@@ -108,7 +96,7 @@ module _ (band : Band) (format records code number word : ℕ) where
   node_added (Some words) height place next child old mid new is high own here number_is under before = λ cells leads.
       let step : 8 * code + place + 1 ≡ 8 * code + (place + 1) = omega arith in
       let parts : (has_child word place ≡ true) × (crosses band child ≡ true) = and_parts (has_child word place) (crosses band child) here in
-      let below : LeadsOn words format cells (height - 1) (8 * code + place) next = (below_leads words cells height place next high is.octant own.own parts.0 number_is leads).1 in
+      let below : LeadsOn words format cells (height - 1) (8 * code + place) next = (below_leads format records code number word 0 words cells height place next high is.octant own.own parts.0 number_is leads).1 in
       let led : LeadsOn words format cells child.height child.code next = subst (λ h. LeadsOn words format cells h child.code next) (sym is.height_is) (subst (λ c. LeadsOn words format cells (height - 1) c next) (sym is.code_is) below) in
       let one : ArePainted band cells child.height child.code (child.code + 1) mid new = under cells led in
       let there : ArePainted band cells (height - 1) (8 * code + place) (8 * code + place + 1) mid new =
@@ -127,7 +115,7 @@ module _ (band : Band) (format records code number word : ℕ) where
       → (child_number word place < number → fault ≡ Failed) → Under told band format height code number old new (Err fault)
   child_fails None height place old new fault high octant own bit below = tt
   child_fails (Some words) height place old new fault high octant own bit below = λ cells leads.
-      subst (λ f. PaintsUnder band cells height code old new (Err f)) (sym (below (below_leads words cells height place (child_number word place) high octant own.own bit refl leads).0)) tt
+      subst (λ f. PaintsUnder band cells height code old new (Err f)) (sym (below (below_leads format records code number word 0 words cells height place (child_number word place) high octant own.own bit refl leads).0)) tt
 
   pub under_fails : (told : Option (List ℕ)) (height place next : ℕ) (child : Square) (old mid new : List ℕ) (fault : WalkFault) → IsChild band height code place child → 1 < height → IsWordOf told records number word
       → (has_child word place && crosses band child) ≡ true → next ≡ child_number word place → Under told band format child.height child.code next mid new (Err fault) → Under told band format height code number old new (Err fault)
@@ -135,5 +123,5 @@ module _ (band : Band) (format records code number word : ℕ) where
   under_fails (Some words) height place next child old mid new Failed is high own here number_is under = λ cells leads. tt
   under_fails (Some words) height place next child old mid new (Refused n w) is high own here number_is under = λ cells leads.
       let parts : (has_child word place ≡ true) × (crosses band child ≡ true) = and_parts (has_child word place) (crosses band child) here in
-      let below : LeadsOn words format cells (height - 1) (8 * code + place) next = (below_leads words cells height place next high is.octant own.own parts.0 number_is leads).1 in
+      let below : LeadsOn words format cells (height - 1) (8 * code + place) next = (below_leads format records code number word 0 words cells height place next high is.octant own.own parts.0 number_is leads).1 in
       under cells (subst (λ h. LeadsOn words format cells h child.code next) (sym is.height_is) (subst (λ c. LeadsOn words format cells (height - 1) c next) (sym is.code_is) below))

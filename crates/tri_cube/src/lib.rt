@@ -20,5 +20,7 @@ mod verdicts;
 mod wide;
 
 pub use meeting::{overlaps, overlaps_by_candidates};
+pub use narrow::NarrowVector;
 pub use prepared::PreparedTriangle;
+pub use products::{cross, scaled, wide_product};
 pub use verdicts::{Verdict, why};

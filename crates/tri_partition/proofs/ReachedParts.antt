@@ -91,8 +91,8 @@ parts_within split most few = pow-le-pow_right {n = 8} (lit< tt) {i = split} {j 
 pub few_parts : (split : ℕ) → split ≤ 4 → 8 ^ split ≤ 8 ^ 4
 few_parts split few = parts_within split 4 few
 
-pub few_places : (split : ℕ) → split ≤ 4 → 2 ^ split ≤ 2 ^ 4
-few_places split few = pow-le-pow_right {n = 2} (lit< tt) {i = split} {j = 4} few
+pub few_places : (split : ℕ) → split ≤ 20 → 2 ^ split ≤ 2 ^ 20
+few_places split few = pow-le-pow_right {n = 2} (lit< tt) {i = split} {j = 20} few
 
 -- ---- the side of a part
 
@@ -102,7 +102,7 @@ some_side cell halvings solid =
     omega (arith, one, solid)
 
 -- the numbers of an extent, as code has them
-pub both_ends : (o low high above over : ℤ) (side split from to whole further part : ℕ) → 0 < side → side ≤ 2 ^ 32 → split ≤ 4 → part < 2 ^ split
+pub both_ends : (o low high above over : ℤ) (side split from to whole further part : ℕ) → 0 < side → side ≤ 2 ^ 32 → split ≤ 20 → part < 2 ^ split
     → mag low < 2 ^ 31 → mag high < 2 ^ 31 → unsigned_abs above ≤ 2 ^ 32 → unsigned_abs over ≤ 2 ^ 32
     → above ≡ to_z w32 (of_z w32 low) -ℤ o → over ≡ to_z w32 (of_z w32 high) -ℤ o
     → whole ≡ counted (to_z w64 (of_z w64 (to_z w64 (of_z w64 above) -ℤ pos 1))) / side

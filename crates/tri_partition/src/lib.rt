@@ -9,5 +9,6 @@ mod pool;
 mod reader;
 
 pub use laws::{parcels_are_spilled_in_steps, parts_are_spilled, spilled_parcels_are_read_back};
+pub use part_ranges::{PartRange, reached_parts};
 pub use partition::Partition;
 pub use reader::PartReader;

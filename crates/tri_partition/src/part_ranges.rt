@@ -15,10 +15,10 @@ pub struct PartRange {
     pub to: u32,
 }
 
-/// The parts that an extent reaches along an axis. Where it ends on the plane between two parts, it
-/// reaches both.
+/// The parts of a level that an extent reaches along an axis; those of the last level are the cells.
+/// Where the extent ends on the plane between two parts, it reaches both.
 pub fn reached_parts(extent: &Extent, grid: &Grid, split: u32, axis: usize) -> PartRange
-    requires split { split ≤ 4 }
+    requires split { split ≤ 20 }
     requires depth { split ≤ grid.now.depth }
     requires axis { axis < 3 }
     ensures reached { (part : ℕ) → part < 2 ^ split → in_range result part ≡ extent_reaches grid.now split axis extent.now part }

@@ -1,7 +1,8 @@
 use Rattle.std.proofs.Common.{◌≡◌, ◌+◌, ◌-◌, ◌*◌, ◌^◌, ◌≤◌, refl, sym, ap, subst, ◌∙◌, arith}
 use Rattle.morton_scan.specs.NextCells.{IsNextCell}
 use Rattle.build_core.specs.Pushing.{AreSlotsOf, PushesOn}
-use Rattle.build_core.proofs.PushedOn.{PushesCell, begins, next_pushed, next_refused, no_more, leaves_front}
+use Rattle.level_queues.proofs.PushedFiles.{PushesCell}
+use Rattle.build_core.proofs.PushedOn.{begins, next_pushed, next_refused, no_more, leaves_front}
 use Rattle.build_core.proofs.cells.push_cells.Goals as goal
 
 pub loop-cell-init : goal.loop-cell-init

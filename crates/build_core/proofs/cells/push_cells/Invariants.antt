@@ -3,7 +3,8 @@ use Rattle.std.proofs.Common.{◌≡◌, ℕ, ◌+◌, ◌-◌, ◌*◌, ◌≤�
 use Rattle.std.specs.Prelude.{Option}
 use Rattle.svo_base.specs.GridShape.{GridShape}
 use Rattle.octree_specs.specs.Cells.{Cell}
-use Rattle.build_core.specs.Pushing.{AreSlotsOf, HasPushed, PushesOn}
+use Rattle.level_queues.specs.PushedFiles.{HasPushed}
+use Rattle.build_core.specs.Pushing.{AreSlotsOf, PushesOn}
 use Rattle.build_core.proofs.cells.push_cells.Given as goal
 
 abbrev pub invariant-loop-cell : goal.invariant-loop-cell

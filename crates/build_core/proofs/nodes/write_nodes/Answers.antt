@@ -1,9 +1,10 @@
 use Rattle.std.proofs.Common.{rules, [], arith, ◌∙◌}
 use Rattle.octree_specs.specs.OctreeFile.{image_of}
 use Rattle.node_file.specs.Waiting.{GrewByFront}
-use Rattle.build_core.specs.Pushing.{HasPushed}
+use Rattle.level_queues.specs.PushedFiles.{HasPushed}
+use Rattle.level_queues.proofs.PushedFiles.{none_pushed}
 use Rattle.build_core.specs.PutFiles.{HasPutFront}
-use Rattle.build_core.proofs.FilesPut.{none_pushed, front_left, front_of_all, all_ended, all_closed, all_put}
+use Rattle.build_core.proofs.FilesPut.{front_left, front_of_all, all_ended, all_closed, all_put}
 use Rattle.build_core.proofs.nodes.write_nodes.Goals as goal
 
 pub write_parts-requires-clause-pushed : goal.write_parts-requires-clause-pushed

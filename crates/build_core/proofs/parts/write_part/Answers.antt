@@ -7,7 +7,8 @@ use Rattle.tri_partition.specs.PartStreams.{part_stream, parcels_in}
 use Rattle.morton_scan.specs.FilledParts.{HasSlotsFor, limited}
 use Rattle.morton_scan.specs.Putting.{first_of_part}
 use Rattle.morton_scan.proofs.FilledParts.{no_triangle}
-use Rattle.build_core.specs.Pushing.{AreSlotsOf, HasPushed, PushesOn}
+use Rattle.level_queues.specs.PushedFiles.{HasPushed}
+use Rattle.build_core.specs.Pushing.{AreSlotsOf, PushesOn}
 use Rattle.build_core.specs.ScratchParts.{HasPartOf}
 use Rattle.build_core.proofs.PartFills.{part_slots, part_tests, slots_narrow, part_inside, eights_few}
 use Rattle.build_core.proofs.PartsPushed.{stays, part_pushed, part_left}

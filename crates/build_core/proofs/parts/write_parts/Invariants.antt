@@ -4,7 +4,8 @@ use Rattle.std.specs.Prelude.{Option}
 use Rattle.octree_specs.specs.FacedTriangles.{Faced}
 use Rattle.morton_scan.specs.FilledParts.{TestEachParcel}
 use Rattle.morton_scan.specs.Putting.{first_of_part}
-use Rattle.build_core.specs.Pushing.{HasPushed, PushesOn}
+use Rattle.level_queues.specs.PushedFiles.{HasPushed}
+use Rattle.build_core.specs.Pushing.{PushesOn}
 use Rattle.build_core.specs.ScratchParts.{HasPartsOf, tests_of_parts}
 use Rattle.build_core.proofs.parts.write_parts.Given as goal
 

@@ -3,8 +3,10 @@ use Rattle.std.proofs.Common.{rules, [], Err, subst, ◌∙◌}
 use Rattle.svo_base.specs.GridShape.{GridShape}
 use Rattle.node_file.specs.FileView.{FileView}
 use Rattle.node_check.specs.declared.stops.AnswerStop.TheVariants.{WriteFault}
-use Rattle.cell_lists.specs.Lifted.{HasPushed, PushesAll}
-use Rattle.cell_lists.proofs.Lifts.{none_pushed, first_put, ended_put, closed_put, all_put, put_as, few_moves}
+use Rattle.level_queues.specs.PushedFiles.{HasPushed}
+use Rattle.level_queues.proofs.PushedFiles.{none_pushed}
+use Rattle.cell_lists.specs.Lifted.{PushesAll}
+use Rattle.cell_lists.proofs.Lifts.{first_put, ended_put, closed_put, all_put, put_as, few_moves}
 use Rattle.cell_lists.proofs.lifting.lift_cells.Goals as goal
 
 pub push_cells-requires-clause-pushed : goal.push_cells-requires-clause-pushed

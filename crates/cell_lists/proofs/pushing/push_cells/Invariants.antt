@@ -2,7 +2,7 @@
 use Rattle.std.proofs.Common.{◌≡◌, ℕ, ◌+◌, ◌-◌, ◌*◌, ◌^◌, ◌≤◌, List, []}
 use Rattle.std.specs.Prelude.{Option}
 use Rattle.node_check.specs.Cursors.{IsOn}
-use Rattle.cell_lists.specs.Lifted.{HasPushed}
+use Rattle.level_queues.specs.PushedFiles.{HasPushed}
 use Rattle.cell_lists.proofs.Lifts.{PushesOn}
 use Rattle.cell_lists.proofs.pushing.push_cells.Given as goal
 

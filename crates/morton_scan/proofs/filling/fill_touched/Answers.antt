@@ -12,7 +12,7 @@ returns-then-not-bounds_reach-clause-slots g c =
 
 pub returns-clause-slots : goal.returns-clause-slots
 returns-clause-slots g c =
-    put_part c.args.grid.now c.args.triangle.now c.args.split c.args.part c.new-node.result.height c.new-node.result.code c.first_code.result c.args.face c.args.slots.now c.fill_node.new.slots
+    put_part c.args.grid.now c.args.triangle.now c.args.split c.args.part c.new-node.result.height c.new-node.result.code c.first_code.result c.args.face c.args.slots.now c.fill_under.new.slots
     c.new-node.ensures.height (c.new-node.ensures.code ∙ c.from.ensures) c.first_code.ensures
-    (subst (λ t. ArePut (MetUnder c.args.grid.now t c.new-node.result.height c.new-node.result.code (c.new-node.result.code + 1)) c.first_code.result c.args.face c.args.slots.now c.fill_node.new.slots)
-    c.new.ensures c.fill_node.ensures.slots)
+    (subst (λ t. ArePut (MetUnder c.args.grid.now t c.new-node.result.height c.new-node.result.code (c.new-node.result.code + 1)) c.first_code.result c.args.face c.args.slots.now c.fill_under.new.slots)
+    c.new.ensures c.fill_under.ensures.slots)

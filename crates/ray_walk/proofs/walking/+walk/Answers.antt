@@ -8,18 +8,18 @@ use Rattle.ray_walk.proofs.walking.+walk.Goals.{in-Skip, in-Take, in-Enter+in_ok
 
 pub returns-in_err-word-clause-walked : goal.returns-in_err-word-clause-walked
 returns-in_err-word-clause-walked g t c words cells on =
-    fails_first (g.R.Records.file c.args.nodes.now).words c.args.flight.now c.args.spot.now c.args.known c.args.reads.now c.read.new.reads c.from_residual.result c.in_err-word.field-0.0 c.requires.flight c.requires.spot
-    (omega (arith, c.read.ensures.reads)) (err_is c.from_residual.result c.in_err-word.field-0.0 c.from_residual.ensures) c.in_err-word.ensures.cause.0 words cells on
+    fails_first (g.R.Records.file c.args.nodes.now).words c.args.flight.now c.args.spot.now c.args.known c.args.reads.now c.read_word.new.reads c.from_residual.result c.in_err-word.field-0.0 c.requires.flight c.requires.spot
+    (omega (arith, c.read_word.ensures.reads)) (err_is c.from_residual.result c.in_err-word.field-0.0 c.from_residual.ensures) c.in_err-word.ensures.cause.0 words cells on
 
 pub loop-k-init : goal.loop-k-init
 loop-k-init g t c = (
-  treads_first (g.R.Records.file c.args.nodes.now).words c.args.flight.now c.args.spot.now c.args.known c.args.reads.now c.read.new.reads (omega (arith, c.read.ensures.reads)),
+  treads_first (g.R.Records.file c.args.nodes.now).words c.args.flight.now c.args.spot.now c.args.known c.args.reads.now c.read_word.new.reads (omega (arith, c.read_word.ensures.reads)),
   c.in_ok-word.ensures.word,
   c.requires.known,
-  c.read.ensures.later,
-  omega (arith, c.read.ensures.reads, c.read.ensures.looked),
-  c.read.ensures.same,
-  c.read.ensures.lender,
+  c.read_word.ensures.later,
+  omega (arith, c.read_word.ensures.reads, c.read_word.ensures.looked),
+  c.read_word.ensures.same,
+  c.read_word.ensures.lender,
 )
 
 pub returns-in_err-next-clause-walked : goal.returns-in_err-next-clause-walked

@@ -20,8 +20,8 @@ loop-node-init g c = (
   refl,
 )
 
-pub read-requires : goal.read-requires
-read-requires g c =
+pub read_word-requires : goal.read_word-requires
+read_word-requires g c =
     let file = g.R.Records.file c.args.nodes.now in
     subst (λ f. c.in-Some.node.number < f.totals.records) (sym c.loop-node.invariant.3)
     (number_there c.args.point file c.grid.result c.grid.ensures.value c.loop-node.best c.in-Some.node c.loop-node.self.waiting c.take.new.self c.args.reads.now c.loop-node.reads c.in-Some.ensures.items c.loop-node.invariant.0)
@@ -41,22 +41,22 @@ visit-requires-clause-known g c =
 pub returns-in_err-word-clause-reads : goal.returns-in_err-word-clause-reads
 returns-in_err-word-clause-reads g c cells tells =
     few_with_it c.args.point (g.R.Records.file c.args.nodes.now) c.grid.result c.grid.ensures.value c.loop-node.best c.in-Some.node c.loop-node.self.waiting c.take.new.self c.args.reads.now c.loop-node.reads c.in-Some.ensures.items c.loop-node.invariant.0
-    c.in-Some.ensures.least c.read.new.reads (sym c.is_nearer.ensures ∙ c.if-is_nearer.false) c.read.ensures.reads cells tells
+    c.in-Some.ensures.least c.read_word.new.reads (sym c.is_nearer.ensures ∙ c.if-is_nearer.false) c.read_word.ensures.reads cells tells
 
 pub returns-in_err-word-clause-looked : goal.returns-in_err-word-clause-looked
 returns-in_err-word-clause-looked g c cells tells =
-    few_alike c.args.point (g.R.Records.file c.args.nodes.now).grid cells c.args.reads.now c.read.new.reads (g.R.Records.looked c.args.nodes.now) (g.R.Records.looked c.read.new.nodes)
-    (omega (arith, c.loop-node.invariant.2, c.read.ensures.looked, c.read.ensures.reads)) (returns-in_err-word-clause-reads g c cells tells)
+    few_alike c.args.point (g.R.Records.file c.args.nodes.now).grid cells c.args.reads.now c.read_word.new.reads (g.R.Records.looked c.args.nodes.now) (g.R.Records.looked c.read_word.new.nodes)
+    (omega (arith, c.loop-node.invariant.2, c.read_word.ensures.looked, c.read_word.ensures.reads)) (returns-in_err-word-clause-reads g c cells tells)
 
 pub returns-in_err-best-clause-reads : goal.returns-in_err-best-clause-reads
 returns-in_err-best-clause-reads g c cells tells =
     few_with_it c.args.point (g.R.Records.file c.args.nodes.now) c.grid.result c.grid.ensures.value c.loop-node.best c.in-Some.node c.loop-node.self.waiting c.take.new.self c.args.reads.now c.loop-node.reads c.in-Some.ensures.items c.loop-node.invariant.0
-    c.in-Some.ensures.least c.read.new.reads (sym c.is_nearer.ensures ∙ c.if-is_nearer.false) c.read.ensures.reads cells tells
+    c.in-Some.ensures.least c.read_word.new.reads (sym c.is_nearer.ensures ∙ c.if-is_nearer.false) c.read_word.ensures.reads cells tells
 
 pub returns-in_err-best-clause-looked : goal.returns-in_err-best-clause-looked
 returns-in_err-best-clause-looked g c cells tells =
-    few_alike c.args.point (g.R.Records.file c.args.nodes.now).grid cells c.args.reads.now c.read.new.reads (g.R.Records.looked c.args.nodes.now) (g.R.Records.looked c.read.new.nodes)
-    (omega (arith, c.loop-node.invariant.2, c.read.ensures.looked, c.read.ensures.reads)) (returns-in_err-best-clause-reads g c cells tells)
+    few_alike c.args.point (g.R.Records.file c.args.nodes.now).grid cells c.args.reads.now c.read_word.new.reads (g.R.Records.looked c.args.nodes.now) (g.R.Records.looked c.read_word.new.nodes)
+    (omega (arith, c.loop-node.invariant.2, c.read_word.ensures.looked, c.read_word.ensures.reads)) (returns-in_err-best-clause-reads g c cells tells)
 
 pub returns-in_err-best-clause-sound : goal.returns-in_err-best-clause-sound
 returns-in_err-best-clause-sound g c cells tells =
@@ -75,15 +75,15 @@ pub loop-node-preserved : goal.loop-node-preserved
 loop-node-preserved g c =
     let own = subst (λ f. IfSome f.words (λ words. c.in_ok-word.word ≡ slice_index words c.in-Some.node.number)) c.loop-node.invariant.3 c.in_ok-word.ensures.word in (
       goes_on c.args.point (g.R.Records.file c.args.nodes.now) c.grid.result c.grid.ensures.value c.loop-node.best c.in-Some.node c.loop-node.self.waiting c.take.new.self c.args.reads.now c.loop-node.reads c.in-Some.ensures.items c.loop-node.invariant.0
-          c.in-Some.ensures.least c.in_ok-word.word c.read.new.reads c.in_ok-best.best c.visit.new.waiting (sym c.is_nearer.ensures ∙ c.if-is_nearer.false) c.read.ensures.reads own
+          c.in-Some.ensures.least c.in_ok-word.word c.read_word.new.reads c.in_ok-best.best c.visit.new.waiting (sym c.is_nearer.ensures ∙ c.if-is_nearer.false) c.read_word.ensures.reads own
           (λ words cells on. subst (λ r. IsVisited words cells c.args.point c.grid.result c.in-Some.node c.loop-node.best c.take.new.self c.visit.new.waiting r) c.in_ok-best.was (c.visit.ensures.told words cells on))
           c.in_ok-best.ensures.nodes
           (λ records below all. subst (λ r. OnOk r (All (λ (other : Waiting). other.number < records) c.visit.new.waiting)) c.in_ok-best.was (c.visit.ensures.there records below all))
           c.in_ok-best.ensures.code,
-      omega (arith, c.loop-node.invariant.1, c.read.ensures.later),
-      omega (arith, c.loop-node.invariant.2, c.read.ensures.looked, c.read.ensures.reads),
-      c.read.ensures.same ∙ c.loop-node.invariant.3,
-      c.read.ensures.lender ∙ c.loop-node.invariant.4,
+      omega (arith, c.loop-node.invariant.1, c.read_word.ensures.later),
+      omega (arith, c.loop-node.invariant.2, c.read_word.ensures.looked, c.read_word.ensures.reads),
+      c.read_word.ensures.same ∙ c.loop-node.invariant.3,
+      c.read_word.ensures.lender ∙ c.loop-node.invariant.4,
     )
 
 pub returns-then-is_nearer-clause-nearest : goal.returns-then-is_nearer-clause-nearest

@@ -1,5 +1,0 @@
--- The height falls.
-use Rattle.query_tests.proofs.slice_view_tests.+put_words.Given as goal
-
-abbrev pub decreases-put_words : goal.decreases-put_words
-decreases-put_words l = l.height

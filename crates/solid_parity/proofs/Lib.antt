@@ -1,0 +1,7 @@
+pub mod Totals
+pub mod Paired
+pub mod Descending
+pub mod ColumnNumbers
+pub mod PartCodes
+pub mod Undersides
+mod WorkedSolids

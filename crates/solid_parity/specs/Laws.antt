@@ -1,0 +1,18 @@
+-- Laws of solid cells.
+use Rattle.std.specs.Prelude.{◌≡◌, ℕ, ◌%◌, ◌==◌, ◌&&◌, not, List}
+use Rattle.std.specs.List.{sum_by}
+use Rattle.svo_base.specs.GridShape.{GridShape}
+use Rattle.svo_base.specs.declared.shapes.Vector.{Vector}
+use Rattle.octree_specs.specs.FacedTriangles.{Faced}
+use Rattle.solid_parity.specs.Edges.{ArePaired}
+use Rattle.solid_parity.specs.Parity.{one, centre_of, is_covered, is_above, is_solid}
+
+-- how many triangles cover the cell's column and are not above its centre
+abbrev pub number_under : GridShape → List Faced → ℕ → ℕ
+number_under grid faced code =
+    sum_by (λ x. one (is_covered x.triangle (centre_of grid code) && not (is_above x.triangle (centre_of grid code)))) faced
+
+-- where all edges are paired, each column goes through an even number of triangles, and so the solid cells may as well be told by the triangles that are not above
+pub record AgreeFromBelow : Type 0 where
+  pub even : (faced : List Faced) (q : Vector) → ArePaired faced → sum_by (λ x. one (is_covered x.triangle q)) faced % 2 ≡ 0
+  pub below : (grid : GridShape) (faced : List Faced) (code : ℕ) → ArePaired faced → is_solid grid faced code ≡ (number_under grid faced code % 2 == 1)

@@ -1,0 +1,10 @@
+//! Laws of solid cells. Each function does nothing: a call gives its `ensures`.
+
+ghost use Rattle.solid_parity.specs.Laws.{AgreeFromBelow};
+
+/// Where each edge stands an even number of times among the edges of all triangles, as in a closed
+/// mesh, each column goes through an even number of triangles. So a cell is solid exactly where an
+/// odd number of triangles covers its column and is not above its centre.
+pub fn parity_agrees_from_below()
+    ensures { AgreeFromBelow }
+{}

@@ -1,0 +1,14 @@
+//! The solid cells of a mesh: those whose centres have an odd number of triangles above them, after
+//! Schwarz and Seidel (2010). What is solid, and which triangles a part needs for it, is said in
+//! `specs/`; here is a law of closed meshes, and which cells of a part's column a triangle is over.
+#![tactic(auto)]
+
+mod columns;
+mod heights;
+mod laws;
+mod prepared;
+mod seen;
+
+pub use columns::PartColumns;
+pub use laws::parity_agrees_from_below;
+pub use prepared::Shape;
