@@ -5,10 +5,11 @@
 mod body;
 mod held;
 mod lines;
+mod reading;
 mod rewriting;
 mod source;
 mod values;
 mod waiting;
-mod words;
 
+pub use reading::{AsciiReading, Start};
 pub use source::AsciiSource;

@@ -286,10 +286,13 @@ impl<I: ByteSource> ByteSource for AsciiSource<'_, I> {
 
     ghost faults = { λ s. I.faults s.held.input.now };
 
+    ghost lender = { λ s. s.held.input.ghost_name };
+
     fn read(&mut self, into: &mut [u8]) -> Result<usize, Failed>
         requires { 0 < length into.old }
         ensures bound { GivesAtMost (length into.old) result }
         ensures bytes { TakesFront (source_rest self.old) (source_rest self.new) into.new result }
+        ensures lender { self.new.held.input.ghost_name ≡ self.old.held.input.ghost_name }
         ensures cause { HasCause (I.faults self.old.held.input.now) (I.faults self.new.held.input.now) result }
         ensures moves { MatchResult result (λ n. Moves self.old self.new (take n into.new)) (λ _. Moves self.old self.new []) }
     {
