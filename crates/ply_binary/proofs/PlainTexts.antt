@@ -1,15 +1,15 @@
 -- A text that stays as it is: its front, with a long line behind it, stays as it is too. So what follows a front is not settled by the front.
-use Rattle.std.proofs.Common.{◌≡◌, ◌≢◌, ℕ, zero, suc, ◌+◌, ◌-◌, ◌<◌, ◌≤◌, inl, inr, Bool, true, false, not, if◌then◌else◌, ◌||◌, ◌&&◌, ◌==◌, nat_lt, List, [], ◌∷◌, ◌++◌, length, take, drop, Option, None, Some, refl, sym, ap, ◌∙◌, subst, arith, append_assoc, append-nil, length-append, length-drop, codes, replicate, take_at, length-take-le}
+use Rattle.std.proofs.Common.{◌≡◌, ℕ, zero, suc, ◌+◌, ◌-◌, ◌<◌, ◌≤◌, inl, inr, Bool, true, false, not, if◌then◌else◌, ◌||◌, ◌&&◌, ◌==◌, nat_lt, List, [], ◌∷◌, ◌++◌, length, take, drop, Option, None, Some, refl, sym, ap, ◌∙◌, arith, append_assoc, append-nil, length-append, length-drop, codes, replicate, take_at, drop_at}
 use Rattle.std.specs.List.{prefix_len}
 use Rattle.std.specs.Str.{bytes_eq}
 use Rattle.std.proofs.lemmas.Bool.Decides.{nat_tests}
-use Rattle.std.proofs.lemmas.List.{append_cancel_left, drop-append-le, take-append-drop, take-append-le, take_all, length-replicate, drop-drop}
+use Rattle.std.proofs.lemmas.List.{append_cancel_left, drop-append-le, take-append-drop, take-append-le, length-replicate, drop-take}
 use Rattle.std.proofs.lemmas.List.Folds.{prefix_len-append, prefix_len-replicate}
 use Rattle.std.proofs.lemmas.List.Sums.{prefix_len-le-length}
 use Rattle.std.proofs.lemmas.Slice.Eq.{bytes_eq-Decides}
 use Rattle.ply_text.specs.declared.run.Run.TheVariants.{Line}
 use Rattle.ply_text.specs.Pieces.{belongs}
-use Rattle.ply_text.specs.NextPieces.{line_of, without_return, room_at}
+use Rattle.ply_text.specs.NextPieces.{line_of, without_return}
 use Rattle.text_words.specs.LineWords.{is_blank, word_size, cut_word, next_word, with_word, words_of}
 use Rattle.ply_reader.specs.declared.fault.PlyKind.{PlyKind}
 use Rattle.ply_reader.specs.Declarations.{Declared, nothing_declared}
@@ -96,12 +96,15 @@ differs_at line front tail u v parts is same =
     let size : length line ≡ length front + (20 + length tail) = ap length parts ∙ length-append front mark ∙ ap (λ n. length front + n) (length-append (codes "binary_little_endian") tail) in
     let cut : length line - (length tail + 20) ≡ length front = omega (arith, size) in
     let start : take (length line - (length tail + 20)) line ≡ front = ap (λ n. take n line) cut ∙ ap (take (length front)) parts ∙ take_at front mark (length front) refl in
-    let left : ascii_line line ≡ front ++ behind = is ∙ ap (λ l. l ++ behind) start in
+    let cut_line : List ℕ = take (length line - (length tail + 20)) line in
+    let left : ascii_line line ≡ front ++ behind = is ∙ append_assoc (cut_line ++ codes "ascii") tail (replicate 15 32) ∙ append_assoc cut_line (codes "ascii") (tail ++ replicate 15 32) ∙ ap (λ (l : List ℕ). l ++ behind) {x = cut_line} {y = front} start in
     let one : front ++ (behind ++ u) ≡ front ++ (mark ++ v) = sym (append_assoc front behind u) ∙ ap (λ l. l ++ u) (sym left) ∙ same ∙ ap (λ l. l ++ v) parts ∙ append_assoc front mark v in
     let other : behind ++ u ≡ mark ++ v = append_cancel_left front (behind ++ u) (mark ++ v) one in
     let first : take 1 (behind ++ u) ≡ take 1 (mark ++ v) = ap (take 1) other in
-    let bad : 97 ∷ [] ≡ 98 ∷ [] = first in
-    absurd (let no : 97 ≡ 98 = cc bad in omega (arith, no))
+    let a : ℕ = 97 in
+    let b : ℕ = 98 in
+    let bad : a ∷ [] ≡ b ∷ [] = first in
+    absurd (let no : a ≡ b = cc bad in omega (arith, no))
 
 rewritten_differs : (line u v : List ℕ) → is_binary (line_words line) ≡ true → ascii_line line ++ u ≡ line ++ v → ⊥
 unfolding ascii_line
@@ -117,24 +120,26 @@ all_line front tail first second = grind (arith, nat_tests, prefix_len-append (b
 long_line : (size place : ℕ) → 1024 < size → is_line size size place ≡ false
 long_line size place long = grind (arith, nat_tests)
 
+front_return_by : (x : ℕ) (xs : List ℕ) (k : ℕ) (last : Bool) → ((x == 13) && (length xs == 0)) ≡ last → without_return xs ≡ take k xs → (n : ℕ) × (without_return (x ∷ xs) ≡ take n (x ∷ xs))
+front_return_by x xs k true is rest = (0, ap (λ b. if b then [] else x ∷ without_return xs) is)
+front_return_by x xs k false is rest = (suc k, ap (λ b. if b then [] else x ∷ without_return xs) is ∙ ap (λ l. x ∷ l) rest)
+
 front_return : (xs : List ℕ) → (k : ℕ) × (without_return xs ≡ take k xs)
 front_return [] = (0, refl)
-front_return (x ∷ xs) = by_last ((x == 13) && (length xs == 0)) refl
-  where
-    by_last : (last : Bool) → ((x == 13) && (length xs == 0)) ≡ last → (k : ℕ) × (without_return (x ∷ xs) ≡ take k (x ∷ xs))
-    by_last true is = (0, ap (λ b. if b then [] else x ∷ without_return xs) is)
-    by_last false is = let r = front_return xs in (suc r.0, ap (λ b. if b then [] else x ∷ without_return xs) is ∙ ap (λ l. x ∷ l) r.1)
+front_return (x ∷ xs) = front_return_by x xs (front_return xs).0 ((x == 13) && (length xs == 0)) refl (front_return xs).1
 
 -- a line is a front of the text
 line_front : (front : List ℕ) (size : ℕ) → size < length front → (rest : List ℕ) × (front ≡ line_of front size ++ rest)
 line_front front size seen =
     let r = front_return (take size front) in
     let inside : nat_lt size (length front) ≡ true = grind (arith, nat_tests, seen) in
-    let line : line_of front size ≡ take r.0 (take size front) = ap (λ b. if b then without_return (take size front) else take size front) inside ∙ r.1 in (
-      drop r.0 (take size front) ++ drop size front,
-      sym (take-append-drop size front) ∙ ap (λ l. l ++ drop size front) (sym (take-append-drop r.0 (take size front))) ∙ append_assoc (take r.0 (take size front)) (drop r.0 (take size front)) (drop size front)
-          ∙ ap (λ l. l ++ drop r.0 (take size front) ++ drop size front) (sym line),
-    )
+    let line : line_of front size ≡ take r.0 (take size front) = ap (λ b. if b then without_return (take size front) else take size front) inside ∙ r.1 in
+    let behind : List ℕ = drop r.0 (take size front) in
+    (behind ++ drop size front, parts size r.0 ∙ ap (λ l. l ++ (behind ++ drop size front)) (sym line))
+  where
+    parts : (n k : ℕ) → front ≡ take k (take n front) ++ (drop k (take n front) ++ drop n front)
+    parts n k =
+        sym (take-append-drop n front) ∙ ap (λ l. l ++ drop n front) (sym (take-append-drop k (take n front))) ∙ append_assoc (take k (take n front)) (drop k (take n front)) (drop n front)
 
 -- a header of which no line is rewritten stays as it is behind this front, whatever stood behind the front where it stayed so
 abbrev Stays : ℕ → List ℕ → List ℕ → Type 0
@@ -165,7 +170,7 @@ stays_step n other t before d place front few unsaid seen taken same = by_format
     step : (x : List ℕ) → header_left false d place (front ++ x) ≡ shown_then next d (front ++ x) w (shown_line false line whole)
     step x = held_step false d place size front x refl seen taken
 
-    joined : (x : List ℕ) → whole ++ drop w front ++ x ≡ front ++ x
+    joined : (x : List ℕ) → whole ++ (drop w front ++ x) ≡ front ++ x
     joined x = sym (append_assoc whole (drop w front) x) ∙ ap (λ l. l ++ x) (take-append-drop w front)
 
     shown_is : (f b : Bool) → is_format words ≡ f → is_binary words ≡ b
@@ -249,8 +254,7 @@ front_of : (xs ys : List ℕ) (n : ℕ) → n ≤ length xs → take n (xs ++ ys
 front_of xs ys n few = take-append-le n xs ys few
 
 take_behind : (xs ys : List ℕ) → drop (length xs) (take (length xs + 1) (xs ++ ys)) ≡ take 1 ys
-take_behind [] ys = refl
-take_behind (x ∷ xs) ys = take_behind xs ys
+take_behind xs ys = drop-take (length xs) 1 (xs ++ ys) ∙ ap (take 1) (drop_at xs ys (length xs) refl)
 
 -- where what is given is settled by a front of the bytes, it is no longer than the front
 pub no_further : (bytes front given left : List ℕ) (b : ℕ) (bs : List ℕ) → ascii bytes ≡ bytes → bytes ≡ front ++ b ∷ bs → bytes ≡ given ++ left

@@ -1,13 +1,12 @@
 -- How much of an input was read for the text that was given.
-use Rattle.std.proofs.Common.{◌≡◌, ℕ, ◌+◌, ◌-◌, ◌<◌, ◌≤◌, ◌⊎◌, inl, inr, List, [], ◌∷◌, ◌++◌, length, take, drop, Option, None, Some, Result, Ok, Err, MatchResult, refl, sym, ap, ◌∙◌, subst, arith, append-nil, length-append, take_at, drop_at}
+use Rattle.std.proofs.Common.{◌≡◌, ℕ, ◌-◌, ◌<◌, ◌≤◌, ◌⊎◌, inl, inr, List, [], ◌∷◌, ◌++◌, length, take, drop, Option, None, Some, Result, Ok, Err, MatchResult, refl, sym, ap, ◌∙◌, subst, arith, append-nil, length-append, take_at, drop_at}
 use Rattle.std.specs.Option.{option_map}
 use Rattle.std.proofs.Props.{props}
 use Rattle.std.proofs.Math.Logic.{∥∥₁_elim}
-use Rattle.dev_traits.specs.Change.{Change}
 use Rattle.dev_traits.specs.declared.device.ByteSource.{Ghosts}
 use Rattle.ply_binary.specs.declared.source.AsciiSource.{AsciiSource}
 use Rattle.ply_binary.specs.HeaderTexts.{ascii}
-use Rattle.ply_binary.specs.SourceStates.{text_behind, source_rest, SameLent, Moves, Gives}
+use Rattle.ply_binary.specs.SourceStates.{text_behind, source_rest, Moves}
 use Rattle.ply_binary.specs.Since.{ReadsSince}
 use Rattle.ply_binary.specs.AsciiChanges.{bytes_in, IsReadAs, IsReadAsAscii}
 use Rattle.ply_binary.proofs.SourceMoves.{moves_given, moves_on}
@@ -96,3 +95,36 @@ module _ {I : Type 0} {g : Ghosts I} where
           → ((more : List ℕ) → ascii (front ++ more) ≡ since.given ++ text_behind s more) ⊎ ((behind ≡ []) × (ascii front ≡ since.given ++ text_behind s []))
       settled front behind (inl always) = inl (λ more. sym (since.text (front ++ more)) ∙ always more)
       settled front behind (inr end) = inr (end.0, sym (since.text front) ∙ end.1)
+
+  -- what is known of an input, once its text was read in part
+  pub read_as_ascii : (told : Option (List ℕ)) (s : AsciiSource I g) (before after : ℕ) → ∥ ReadsSince told s ∥₁
+      → IsReadAsAscii (record { before = told; after = g.rest s.held.input.now; faults_before = before; faults_after = after })
+      (record { before = option_map ascii told; after = source_rest s; faults_before = before; faults_after = after })
+  read_as_ascii told s before after since = record {
+    before = refl;
+    untold = λ none. (untold none, ap (option_map (text_behind s)) (untold none));
+    told = λ bytes is. (
+      ∥∥₁_elim since (same_told _ _) (λ w. (after_read told s w bytes is).0),
+      ∥∥₁_elim since (same_told _ _) (λ w. (after_read told s w bytes is).1),
+      record {
+        behind_is = ∥∥₁_elim since (same_bytes _ _) (λ w. (after_read told s w bytes is).2.behind_is);
+        left_is = ∥∥₁_elim since (same_bytes _ _) (λ w. (after_read told s w bytes is).2.left_is);
+        settled = λ some more. ∥∥₁_elim since (same_bytes _ _) (λ w. (after_read told s w bytes is).2.settled some more);
+        plain = λ same. ∥∥₁_elim since (fewer _ _) (λ w. (after_read told s w bytes is).2.plain same);
+      },
+    );
+    faults_before = refl;
+    faults_after = refl;
+  }
+    where
+      same_told : (a b : Option (List ℕ)) → IsProp (a ≡ b)
+      same_told a b = hlevel props
+
+      same_bytes : (a b : List ℕ) → IsProp (a ≡ b)
+      same_bytes a b = hlevel props
+
+      fewer : (a b : ℕ) → IsProp (a ≤ b)
+      fewer a b = hlevel props
+
+      untold : told ≡ None → g.rest s.held.input.now ≡ None
+      untold none = ∥∥₁_elim since (same_told _ _) (λ w. w.moves.untold (w.told_is ∙ none))
