@@ -53,6 +53,10 @@ settled_by bytes front behind given left next parts left-is text = record {
         let few : length given ≤ length front = no_further bytes front given left b bs same (parts ∙ ap (λ l. front ++ l) is) (sym same ∙ whole) (λ more. (next more, always some more)) in
         omega (arith, few, ap length parts, length-append front behind, ap length same, ap length whole, length-append given left)
 
+rest_by : (text : List ℕ → List ℕ) (told : Option (List ℕ)) → ((bytes : List ℕ) → text bytes ≡ ascii bytes) → option_map text told ≡ option_map ascii told
+rest_by text None same = refl
+rest_by text (Some bytes) same = ap Some (same bytes)
+
 module _ {I : Type 0} {g : Ghosts I} where
   -- a source that was made now
   pub since_now : (told : Option (List ℕ)) (s : AsciiSource I g) → told ≡ g.rest s.held.input.now → ((bytes : List ℕ) → text_behind s bytes ≡ ascii bytes) → ReadsSince told s
@@ -61,8 +65,11 @@ module _ {I : Type 0} {g : Ghosts I} where
     given = [];
     told_is = sym is;
     text = text;
-    moves = moves_given s s [] (record { input = refl; block = refl }) refl (λ more. refl);
+    moves = moves_given s s [] (record { input = refl }) refl (λ more. refl);
   }
+
+  pub rest_now : (told : Option (List ℕ)) (s : AsciiSource I g) → told ≡ g.rest s.held.input.now → ((bytes : List ℕ) → text_behind s bytes ≡ ascii bytes) → source_rest s ≡ option_map ascii told
+  rest_now told s is text = ap (option_map (text_behind s)) (sym is) ∙ rest_by (text_behind s) told text
 
   -- and one that was read on
   pub since_read : {E : Type 0} (told : Option (List ℕ)) (old new : AsciiSource I g) (result : Result ℕ E) (into : List ℕ) → ReadsSince told old

@@ -11,5 +11,6 @@ mod source;
 mod values;
 mod waiting;
 
+pub use held::HeldInput;
 pub use reading::{AsciiReading, Start};
 pub use source::AsciiSource;

@@ -29,18 +29,17 @@ pub struct AsciiReading<'a, I: ByteSource, S: Start> {
 
 impl<'a, I: ByteSource, S: Start> AsciiReading<'a, I, S> {
     ghost use Rattle.ply_binary.specs.HeaderTexts.{ascii};
-    ghost use Rattle.ply_binary.specs.SourceStates.{source_rest};
+    ghost use Rattle.ply_binary.specs.SourceStates.{source_rest, text_behind};
 
-    /// The text of the input, which is read through the block.
-    pub fn new(input: &'a mut I, block: &'a mut [u8]) -> AsciiReading<'a, I, S>
-        requires room { 2048 ≤ length block.old }
-        requires start { S.told ≡ I.rest input.old }
-        ensures input { result.source.held.input.ghost_name ≡ input.entry.ghost_name }
-        ensures rest { source_rest result.source ≡ option_map ascii (I.rest input.old) }
-        ensures faults { I.faults result.source.held.input.now ≡ I.faults input.old }
+    /// A source that has given nothing yet.
+    pub fn new(source: AsciiSource<'a, I>) -> AsciiReading<'a, I, S>
+        requires start { S.told ≡ I.rest source.held.input.now }
+        requires text { (bytes : List ℕ) → text_behind source bytes ≡ ascii bytes }
+        ensures input { result.source.held.input ≡ source.entry.held.input }
+        ensures rest { source_rest result.source ≡ option_map ascii S.told }
     {
         AsciiReading {
-            source: AsciiSource::new(input, block),
+            source,
             start: PhantomData,
         }
     }
