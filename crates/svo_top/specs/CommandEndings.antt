@@ -5,9 +5,9 @@ use Rattle.dev_traits.specs.Change.{Change, ScratchChange, StoreChange, IsFaulte
 use Rattle.svo_words.specs.declared.commands.Command.{Command}
 use Rattle.svo_words.specs.declared.commands.Command.TheVariants.{Build, Why, Check, Has, Cells, Lift, Cast, Slice, View, Make, Sum}
 use Rattle.svo_top.specs.FileQuestion.{Asks, IsLate, CastsRays}
-use Rattle.svo_top.specs.Build.{BuildMeans, IsUntouched}
+use Rattle.svo_top.specs.Build.{IsUntouched}
 use Rattle.svo_top.specs.Commands.{NamesNodes, ReadsInput, MayBeLate}
-use Rattle.svo_top.specs.Endings.{status_of, EndsBuild, EndsWhy, EndsQuietly}
+use Rattle.svo_top.specs.Endings.{status_of, BuildEnds, EndsWhy, EndsQuietly}
 use Rattle.slice_view.specs.Cameras.{CameraShape}
 use Rattle.svo_words.specs.declared.pictures.ViewWords.{ViewWords}
 use Rattle.svo_top.specs.Picturing.{axis_from, camera_of}
@@ -37,7 +37,7 @@ pub record CarriesOutView (words : ViewWords) (input out : Change) (nodes : Stor
 
 -- what each command means
 abbrev pub CarriesOut : Command → Change → Change → ScratchChange → StoreChange → Ending → Type 0
-CarriesOut (Build words) input out scratch nodes ending = EndsBuild words input out scratch ending × BuildMeans words input out scratch (status_of ending) × IsKept nodes
+CarriesOut (Build words) input out scratch nodes ending = BuildEnds words input out scratch ending × IsKept nodes
 CarriesOut (Why words) input out scratch nodes ending = EndsWhy ending × WhyMeans words out (status_of ending) × IsKept input × IsScratchKept scratch × IsKept nodes
 CarriesOut (Check words) input out scratch nodes ending = CarriesOutQuestion question.Check words.nodes None input out nodes ending × IsScratchKept scratch
 CarriesOut (Has words) input out scratch nodes ending = CarriesOutQuestion (question.Has words.code) words.nodes None input out nodes ending × IsScratchKept scratch
