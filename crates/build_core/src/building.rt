@@ -55,6 +55,7 @@ pub fn build_core<I: ByteSource, S: Scratch, O: ByteSink, L: Ledger, T: Ledger>(
     ensures in_time { IfErr result (StopsInTime job.now (devices_of (change_of I.rest I.faults input.old input.new) (change_of O.written O.faults out.old out.new) (scratch_change_of S.told S.asked S.faults scratch.old scratch.new))
         moves.old moves.new tests.old tests.new) }
     ensures asked { S.asked scratch.new ≡ Some (asked_of place.now (1 + 8 ^ job.now.plan.split)) }
+    ensures lender { I.lender input.new ≡ I.lender input.old }
     ensures read_later { I.faults input.old ≤ I.faults input.new }
     ensures spill_later { S.faults scratch.old ≤ S.faults scratch.new }
     ensures put_later { O.faults out.old ≤ O.faults out.new }
@@ -90,6 +91,7 @@ fn build_parts<I: ByteSource, S: Scratch, O: ByteSink, L: Ledger, T: Ledger>(
     ensures in_time { IfErr result (StopsInTime job.now (devices_of (change_of I.rest I.faults input.old input.new) (change_of O.written O.faults out.old out.new) (scratch_change_of S.told S.asked S.faults scratch.old scratch.new))
         moves.old moves.new tests.old tests.new) }
     ensures asked { S.asked scratch.new ≡ S.asked scratch.old }
+    ensures lender { I.lender input.new ≡ I.lender input.old }
     ensures read_later { I.faults input.old ≤ I.faults input.new }
     ensures spill_later { S.faults scratch.old ≤ S.faults scratch.new }
     ensures put_later { O.faults out.old ≤ O.faults out.new }

@@ -54,6 +54,7 @@ pub fn spill<I: ByteSource, S: Scratch>(
     ensures spills { MatchResult result (SpillsText job.now (I.rest input.old) (I.rest input.new) (S.told scratch.new)) (TellsStop job.now (I.rest input.old) (I.rest input.new)) }
     ensures started { S.started scratch.new ≡ S.started scratch.old }
     ensures asked { S.asked scratch.new ≡ S.asked scratch.old }
+    ensures lender { I.lender input.new ≡ I.lender input.old }
     ensures read_later { I.faults input.old ≤ I.faults input.new }
     ensures read_cause { result ≡ Err (SpillFault.Text PlyFault.ReadFault) → Rose (I.faults input.old) (I.faults input.new) }
     ensures spill_later { S.faults scratch.old ≤ S.faults scratch.new }

@@ -181,6 +181,16 @@ seen_line place size bytes more is seen taken =
     ∙ ap (λ b. Ok (if b then None else Some (record { place = place; bytes = line_of text size }))) some
     ∙ ap (λ line. Ok (Some (record { place = place; bytes = line }))) (held_line size bytes more (seen_end place size bytes more is seen taken))
 
+-- a line whose LF is held, and the header behind it
+pub held_step : (found : Bool) (d : Declared) (place size : ℕ) (bytes more : List ℕ) → size ≡ prefix_len (belongs Line) bytes → size < length bytes → is_line (length bytes) size place ≡ true
+    → header_left found d place (bytes ++ more) ≡ shown_then (λ found d behind. header_left found d (place + (size + 1)) behind) d (bytes ++ more) (size + 1) (shown_line found (line_of bytes size) (take (size + 1) bytes))
+held_step found d place size bytes more is seen taken =
+    let text : List ℕ = bytes ++ more in
+    let size-is : line_size text ≡ size + 1 = held_size size bytes more is (inl seen) ∙ (let one : min (size + 1) (length bytes) ≡ size + 1 = omega (arith, seen) in one) in
+    header_step found d place text (Ok (Some (record { place = place; bytes = line_of bytes size }))) (seen_line place size bytes more is (inl seen) taken)
+    ∙ ap (λ n. shown_then (λ found d behind. header_left found d (place + n) behind) d text n (shown_line found (line_of bytes size) (take n text))) size-is
+    ∙ ap (λ front. shown_then (λ found d behind. header_left found d (place + (size + 1)) behind) d text (size + 1) (shown_line found (line_of bytes size) front)) (take-append-le (size + 1) bytes more (omega (arith, seen)))
+
 by_shown : (found : Bool) (d : Declared) (place : ℕ) (bytes more : List ℕ) (whole : ℕ) (result : Option ShownLine)
     → header_left found d place (bytes ++ more) ≡ shown_then (λ found d behind. header_left found d (place + whole) behind) d (bytes ++ more) whole (shown_of result)
     → drop whole (bytes ++ more) ≡ drop whole bytes ++ more → IsShown found d place bytes more whole result

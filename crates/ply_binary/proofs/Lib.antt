@@ -3,3 +3,5 @@ pub mod HeldBytes
 pub mod LineWords
 pub mod HeaderSteps
 pub mod SourceMoves
+pub mod PlainTexts
+pub mod Readings

@@ -7,7 +7,7 @@ use Rattle.dev_traits.specs.declared.device.ByteSource.{Ghosts}
 use Rattle.ply_reader.specs.Declarations.{Declared, declared}
 use Rattle.ply_binary.specs.Bodies.{end_text}
 use Rattle.ply_binary.specs.declared.body.Body.{Body}
-use Rattle.ply_binary.specs.declared.held.Held.{Held}
+use Rattle.ply_binary.specs.declared.held.HeldInput.{HeldInput}
 use Rattle.ply_binary.specs.declared.rewriting.Halt.{Halt}
 use Rattle.ply_binary.specs.declared.rewriting.Halt.TheVariants.{Ended}
 use Rattle.ply_binary.specs.BodyStates.{body_left, left_behind, Halts}
@@ -91,7 +91,7 @@ module _ {I : Type 0} {g : Ghosts I} where
       }
 
   -- more bytes were held, and then text was given
-  pub moves_then : (old new : AsciiSource I g) (mid : Held I g) (given : List ℕ) → HoldsMore old.held mid → SameLent old new → g.rest new.held.input.now ≡ g.rest mid.input.now
+  pub moves_then : (old new : AsciiSource I g) (mid : HeldInput I g) (given : List ℕ) → HoldsMore old.held mid → SameLent old new → g.rest new.held.input.now ≡ g.rest mid.input.now
       → ((more : List ℕ) → old.text ++ left_by old.stage (declared old.header) old.place old.body (held mid ++ more) ≡ given ++ text_behind new more)
       ⊎ (IsAtEnd (g.rest mid.input.now) × (old.text ++ left_by old.stage (declared old.header) old.place old.body (held mid ++ []) ≡ given ++ text_behind new []))
       → Moves old new given
@@ -111,7 +111,7 @@ module _ {I : Type 0} {g : Ghosts I} where
   -- one call after another
   pub moves_on : {a b c : AsciiSource I g} {xs ys : List ℕ} → Moves a b xs → Moves b c ys → Moves a c (xs ++ ys)
   moves_on {a} {b} {c} {xs} {ys} first second = record {
-    lent = record { input = second.lent.input ∙ first.lent.input; block = second.lent.block ∙ first.lent.block };
+    lent = record { input = second.lent.input ∙ first.lent.input };
     untold = λ none. second.untold (first.untold none);
     told = λ bytes is.
         let f = first.told bytes is in
@@ -146,7 +146,7 @@ module _ {I : Type 0} {g : Ghosts I} where
   pub moves_wait : (old mid new : AsciiSource I g) (made given : List ℕ) → Moves old mid made → made ≡ given ++ new.text → new.held ≡ mid.held
       → ((more : List ℕ) → text_behind new more ≡ new.text ++ text_behind mid more) → Moves old new given
   moves_wait old mid new made given moves parts held_is behind = record {
-    lent = record { input = ap (λ h. h.input.ghost_name) held_is ∙ moves.lent.input; block = ap (λ h. h.block.ghost_name) held_is ∙ moves.lent.block };
+    lent = record { input = ap (λ h. h.input.ghost_name) held_is ∙ moves.lent.input };
     untold = λ none. ap (λ h. g.rest h.input.now) held_is ∙ moves.untold none;
     told = λ bytes is.
         let f = moves.told bytes is in

@@ -1,7 +1,9 @@
-pub mod Values
+pub mod AsciiChanges
 pub mod Bodies
-pub mod HeaderTexts
 pub mod BodyStates
+pub mod HeaderTexts
 pub mod HeldStates
 pub mod LineStates
+pub mod Since
 pub mod SourceStates
+pub mod Values

@@ -41,10 +41,9 @@ module _ {I : Type 0} {g : Ghosts I} where
   abbrev pub source_rest : AsciiSource I g → Option (List ℕ)
   source_rest s = option_map (text_behind s) (g.rest s.held.input.now)
 
-  -- the same input and the same block
+  -- the same input
   pub record SameLent (old new : AsciiSource I g) : Type 0 where
     pub input : new.held.input.ghost_name ≡ old.held.input.ghost_name
-    pub block : new.held.block.ghost_name ≡ old.held.block.ghost_name
 
   -- of the input's bytes a front was read, and text was given that these bytes alone settle: whatever follows them, the text to come began with it.
   -- Where the front is all that the input has, what would follow it is not asked

@@ -10,6 +10,9 @@ ghost use Rattle.ply_text.specs.Pieces.{belongs};
 
 use dev_traits::{ByteSource, Failed};
 
+/// How many bytes are held at most.
+const BLOCK_SIZE: usize = 4096;
+
 /// The most bytes before a line's end.
 const LINE_SIZE: usize = 1024;
 
@@ -18,16 +21,17 @@ const VALUE_SIZE: usize = 8;
 
 const LINE_FEED: u8 = 10;
 
-/// A source, and the bytes that were read from it into a lent block and not yet passed.
+/// A source, and the bytes that were read from it into a block and not yet passed. It owns the block, so
+/// that whoever lent the source knows it again once the loan is over, however deep this lies.
 #[derive(Drop)]
-pub(crate) struct Held<'a, I: ByteSource> {
+pub struct HeldInput<'a, I: ByteSource> {
     pub(crate) input: &'a mut I,
-    block: &'a mut [u8],
+    block: [u8; BLOCK_SIZE],
     from: usize,
     to: usize,
     ghost ordered: { from ≤ to },
-    ghost inside: { to ≤ length block.now },
-    ghost roomy: { 2048 ≤ length block.now },
+    ghost inside: { to ≤ length block },
+    ghost roomy: { 2048 ≤ length block },
 }
 
 /// Reads into the block from `to` on.
@@ -49,21 +53,19 @@ fn line_size(bytes: &[u8]) -> usize
     bytes.iter().take_while(|byte| **byte != LINE_FEED).count()
 }
 
-impl<'a, I: ByteSource> Held<'a, I> {
+impl<'a, I: ByteSource> HeldInput<'a, I> {
     ghost use Rattle.std.specs.Prelude.{[]};
     ghost use Rattle.ply_binary.specs.HeldStates.{held, Keeps, HoldsMore, Passes};
 
     /// Nothing is held yet.
-    pub(crate) fn new(input: &'a mut I, block: &'a mut [u8]) -> Held<'a, I>
-        requires { 2048 ≤ length block.old }
+    pub fn new(input: &'a mut I) -> HeldInput<'a, I>
         ensures input { result.input.ghost_name ≡ input.entry.ghost_name }
-        ensures block { result.block.ghost_name ≡ block.entry.ghost_name }
         ensures rest { result.input.now ≡ input.old }
         ensures held { held result ≡ [] }
     {
-        Held {
+        HeldInput {
             input,
-            block,
+            block: [0; BLOCK_SIZE],
             from: 0,
             to: 0,
         }
@@ -135,7 +137,7 @@ impl<'a, I: ByteSource> Held<'a, I> {
         ensures held { held self.new ≡ held self.old }
         ensures front { self.new.from ≡ 0 }
         ensures to { self.new.to ≡ self.old.to - self.old.from }
-        ensures len { length self.new.block.now ≡ length self.old.block.now }
+        ensures len { length self.new.block ≡ length self.old.block }
     {
         if self.from == 0 {
             return;
@@ -155,7 +157,7 @@ impl<'a, I: ByteSource> Held<'a, I> {
     {
         self.to_front();
         let to = self.to;
-        match read_behind(self.input, self.block, to) {
+        match read_behind(self.input, &mut self.block, to) {
             Ok(count) => {
                 self.to += count;
                 Ok(count > 0)

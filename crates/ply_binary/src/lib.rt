@@ -5,10 +5,12 @@
 mod body;
 mod held;
 mod lines;
+mod reading;
 mod rewriting;
 mod source;
 mod values;
 mod waiting;
-mod words;
 
+pub use held::HeldInput;
+pub use reading::{AsciiReading, Start};
 pub use source::AsciiSource;

@@ -1,16 +1,15 @@
 //! The lines of a header, as they are given.
 
 ghost use Rattle.std.specs.Prelude.{◌≡◌, ◌+◌, ◌-◌, ◌^◌, ◌≤◌, ◌<◌, ◌++◌, ◌∷◌, ℕ, List, Bool, true, false, length, take, drop, MatchOption, IfSome, min, Option, Some, None};
-ghost use Rattle.ply_text.specs.NextPieces.{without_return, line_of};
+ghost use Rattle.ply_text.specs.NextPieces.{line_of};
 ghost use Rattle.text_words.specs.LineWords.{next_word, words_of};
 ghost use Rattle.ply_reader.specs.LineWords.{line_words};
 ghost use Rattle.ply_binary.specs.HeaderTexts.{is_binary, behind_word, shown_line};
 ghost use Rattle.ply_binary.specs.LineStates.{IsFormat, IsLong, shown_of};
 
 use crate::waiting::Waiting;
-use crate::words::next_word;
-
-const CARRIAGE_RETURN: u8 = 13;
+use ply_text::without_return;
+use text_words::next_word;
 
 /// What a header line says of the format.
 enum Format<'a> {
@@ -31,23 +30,6 @@ pub(crate) struct ShownLine {
     pub(crate) size: usize,
     /// Whether the header's format line was given.
     pub(crate) found: bool,
-}
-
-/// A line's bytes end before a CR that stands directly before its LF.
-fn without_return(line: &[u8]) -> usize
-    ensures bytes { take result line.now ≡ without_return line.now }
-    ensures bound { result ≤ length line.now }
-{
-    match line.split_last() {
-        None => 0,
-        Some((last, before)) => {
-            if *last == CARRIAGE_RETURN {
-                before.len()
-            } else {
-                line.len()
-            }
-        }
-    }
 }
 
 /// Where the line ends that has so many bytes before its LF.

@@ -13,7 +13,7 @@ ghost use Rattle.ply_binary.specs.BodyStates.{IsIn};
 ghost use Rattle.ply_binary.specs.LineStates.{stage_behind, is_line};
 
 use crate::body::Body;
-use crate::held::Held;
+use crate::held::HeldInput;
 use crate::lines::{ShownLine, line_end, show_line, whole_size};
 use crate::rewriting::{Done, Halt, rewrite};
 use crate::values::TOKEN_ROOM;
@@ -48,7 +48,7 @@ enum Stage {
 /// byte follows the last value, the text ends with `x`; after a negative count the text ends.
 #[derive(Drop)]
 pub struct AsciiSource<'a, I: ByteSource> {
-    held: Held<'a, I>,
+    held: HeldInput<'a, I>,
     text: Waiting,
     stage: Stage,
     header: Header,
@@ -94,17 +94,15 @@ impl<'a, I: ByteSource> AsciiSource<'a, I> {
     ghost use Rattle.ply_binary.specs.LineStates.{IsShown, IsLong};
     ghost use Rattle.ply_binary.specs.SourceStates.{text_behind, source_rest, IsBehindHead, IsSeen, IsHeld, Moves};
 
-    /// The text of the input, which is read through the block.
+    /// The text of an input of which nothing is held yet.
     #[tactic(auto, unfolding(crate::specs::HeaderTexts::ascii))]
-    pub fn new(input: &'a mut I, block: &'a mut [u8]) -> AsciiSource<'a, I>
-        requires { 2048 ≤ length block.old }
-        ensures input { result.held.input.ghost_name ≡ input.entry.ghost_name }
-        ensures block { result.held.block.ghost_name ≡ block.entry.ghost_name }
-        ensures start { result.held.input.now ≡ input.old }
+    pub fn new(input: HeldInput<'a, I>) -> AsciiSource<'a, I>
+        requires { held input ≡ [] }
+        ensures input { result.held.input ≡ input.entry.input }
         ensures text { (bytes : List ℕ) → text_behind result bytes ≡ ascii bytes }
     {
         AsciiSource {
-            held: Held::new(input, block),
+            held: input,
             text: Waiting::new(),
             stage: Stage::Head(false),
             header: Header::new(),
@@ -286,10 +284,13 @@ impl<I: ByteSource> ByteSource for AsciiSource<'_, I> {
 
     ghost faults = { λ s. I.faults s.held.input.now };
 
+    ghost lender = { λ s. s.held.input.ghost_name };
+
     fn read(&mut self, into: &mut [u8]) -> Result<usize, Failed>
         requires { 0 < length into.old }
         ensures bound { GivesAtMost (length into.old) result }
         ensures bytes { TakesFront (source_rest self.old) (source_rest self.new) into.new result }
+        ensures lender { self.new.held.input.ghost_name ≡ self.old.held.input.ghost_name }
         ensures cause { HasCause (I.faults self.old.held.input.now) (I.faults self.new.held.input.now) result }
         ensures moves { MatchResult result (λ n. Moves self.old self.new (take n into.new)) (λ _. Moves self.old self.new []) }
     {

@@ -10,3 +10,4 @@ pub mod Steps
 pub mod TokenRuns
 pub mod WholeReads
 pub mod WithinRanges
+pub mod FormatLines

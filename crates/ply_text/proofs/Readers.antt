@@ -19,7 +19,7 @@ use Rattle.ply_text.specs.Holding.{Keeps, Holds, Passes, Advances, PassesWhite, 
 
 module _ {I : Type 0} {g : Ghosts I} where
   pub Keeps-trans : {a b c : Tokens I g} → Keeps a b → Keeps b c → Keeps a c
-  Keeps-trans first second = record { input = second.input ∙ first.input; block = second.block ∙ first.block; stopped = second.stopped ∙ first.stopped }
+  Keeps-trans first second = record { input = second.input ∙ first.input; block = second.block ∙ first.block; lender = second.lender ∙ first.lender; stopped = second.stopped ∙ first.stopped }
 
   pub Holds-trans : {a b c : Tokens I g} → Holds a b → Holds b c → Holds a c
   Holds-trans {a} {b} {c} first second = record {
@@ -106,7 +106,7 @@ module _ {I : Type 0} {g : Ghosts I} where
 
   pub PassesWhite-refl : (a : Tokens I g) → PassesWhite a a
   PassesWhite-refl a = record {
-    keeps = record { input = refl; block = refl; stopped = refl };
+    keeps = record { input = refl; block = refl; lender = refl; stopped = refl };
     later = omega arith;
     read = omega arith;
     told = λ text told. (told ∙ ap (λ n. Some (drop n text)) {x = 0} {y = a.place - a.place} (omega arith), omega arith);

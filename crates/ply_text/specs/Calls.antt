@@ -28,10 +28,11 @@ line_piece line = record { place = line.place; bytes = line.bytes.now }
 abbrev pub token_piece : TokenStruct → Piece
 token_piece token = record { place = token.place; bytes = token.bytes.now }
 
--- the reader holds the same source and the same block
+-- the reader holds the same source, which its lender knows again, and the same block
 pub record SameLent {I : Type 0} {g : Ghosts I} (old new : Tokens I g) : Type 0 where
   pub input : new.input.ghost_name ≡ old.input.ghost_name
   pub block : new.block.ghost_name ≡ old.block.ghost_name
+  pub lender : g.lender new.input.now ≡ g.lender old.input.now
 
 -- the place that a fault is about: all bytes before it were read
 abbrev pub fault_place : TextFault → ℕ

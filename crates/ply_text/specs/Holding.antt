@@ -34,10 +34,11 @@ checked_size limit fault room held size =
     else (if nat_le room size && nat_lt room held then Err TooLong else Ok size)
 
 module _ {I : Type 0} {g : Ghosts I} where
-  -- the same source, block, stop
+  -- the same source with its lender, block, stop
   pub record Keeps (old new : Tokens I g) : Type 0 where
     pub input : new.input.ghost_name ≡ old.input.ghost_name
     pub block : new.block.ghost_name ≡ old.block.ghost_name
+    pub lender : g.lender new.input.now ≡ g.lender old.input.now
     pub stopped : new.stopped ≡ old.stopped
 
   -- nothing was passed, and more bytes may be held

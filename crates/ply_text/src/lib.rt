@@ -12,5 +12,5 @@ mod wholes;
 
 pub use fault::TextFault;
 pub use numbers::{NumberFault, one_numeral, one_reading, read_fixed};
-pub use tokens::{Line, Token, Tokens};
+pub use tokens::{Line, Token, Tokens, without_return};
 pub use wholes::read_whole;

@@ -7,6 +7,8 @@ use dev_traits::ByteSource;
 
 mod holding;
 
+pub use holding::without_return;
+
 /// A line, without its end.
 #[derive(Clone, Copy, Debug)]
 pub struct Line<'a> {
@@ -66,6 +68,7 @@ impl<'a, I: ByteSource> Tokens<'a, I> {
         requires { 2048 ≤ length block.old }
         ensures input { result.input.ghost_name ≡ input.entry.ghost_name }
         ensures block { result.block.ghost_name ≡ block.entry.ghost_name }
+        ensures lender { I.lender result.input.now ≡ I.lender input.old }
         ensures start { reading result ≡ record {
           left = I.rest input.old;
           place = 0;

@@ -2,6 +2,7 @@
 use Rattle.std.proofs.Common.{◌⊎◌, ◌≡◌, ◌≢◌, ℕ, ◌<◌, List, [], ◌++◌, length, take, drop, refl, sym, ap, ◌∙◌, subst, inl, inr, Some, Result, Ok, Err, ⊎_elim, arith}
 use Rattle.std.specs.Result.{result_err}
 use Rattle.dev_traits.specs.Change.{Change, ChangeOf, ScratchChange, IsFaultless, IsFaulted, IsKept}
+use Rattle.ply_binary.specs.AsciiChanges.{IsReadAsAscii}
 use Rattle.ply_reader.specs.WholeMeshes.{IsReadTo}
 use Rattle.ply_reader.specs.PlyMeaning.{PlyMesh, ply_meaning}
 use Rattle.ply_reader.specs.declared.fault.PlyFault.TheVariants.{Refused as IsRefused}
@@ -167,20 +168,25 @@ means_rejects words input out scratch job at (Err fault.ReadFault) runs text ply
 means_rejects words input out scratch job at (Err fault.ScratchFault) runs text ply place told refused read spilled = absurd (unfaulted scratch.streams (runs.spilled refl) spilled)
 means_rejects words input out scratch job at (Err fault.WriteFault) runs text ply place told refused read spilled = absurd (no_mesh job text runs.builds.mesh ply place (runs.builds.means text told) refused)
 
-pub means_build : (words : BuildWords) (input out : Change) (scratch : ScratchChange) (job : Job) (r : Result Built BuildFault) → job_from words ≡ Ok job → BuildsJob job words.scratch input out scratch r
-    → BuildMeans words input out scratch (status_of (ending_of r))
-means_build words input out scratch job r named runs = record {
+-- a text counts the faults of its input
+faultless : (input text : Change) → IsReadAsAscii input text → IsFaultless input → IsFaultless text
+faultless input text ascii none = rw (ascii.faults_before, ascii.faults_after) none
+
+pub means_build : (words : BuildWords) (input text out : Change) (scratch : ScratchChange) (job : Job) (r : Result Built BuildFault) → job_from words ≡ Ok job → BuildsJob job words.scratch text out scratch r
+    → IsReadAsAscii input text → BuildMeans words input text out scratch (status_of (ending_of r))
+means_build words input text out scratch job r named runs ascii = record {
   untouched = λ fault broken. absurd (no_range words job fault named broken);
   memory = λ is. absurd (not_memory r is);
   asked = inr (record { job = job; named = named; asked = runs.asked });
-  kept = means_kept input out scratch job words.scratch r runs;
-  cut_off = means_cut_off words input out scratch job words.scratch r named runs;
-  cut_short = means_cut_short words input out scratch job words.scratch r named runs;
-  refused = means_refused words input out scratch job words.scratch r named runs;
-  accepts = λ text other mesh also told means read put spilled.
-      means_accepts words input out scratch job words.scratch r runs text mesh told (subst (λ j. ply_meaning (scale_of j) text ≡ Ok mesh) (same_job words job other named also) means) read put spilled;
-  rejects = λ text other ply place also told refused read spilled.
-      means_rejects words input out scratch job words.scratch r runs text ply place told (subst (λ j. ply_meaning (scale_of j) text ≡ Err (IsRefused ply place)) (same_job words job other named also) refused) read spilled;
+  kept = means_kept text out scratch job words.scratch r runs;
+  cut_off = means_cut_off words text out scratch job words.scratch r named runs;
+  cut_short = means_cut_short words text out scratch job words.scratch r named runs;
+  refused = means_refused words text out scratch job words.scratch r named runs;
+  accepts = λ bytes other mesh also told means read put spilled.
+      means_accepts words text out scratch job words.scratch r runs bytes mesh told (subst (λ j. ply_meaning (scale_of j) bytes ≡ Ok mesh) (same_job words job other named also) means) (faultless input text ascii read) put spilled;
+  rejects = λ bytes other ply place also told refused read spilled.
+      means_rejects words text out scratch job words.scratch r runs bytes ply place told (subst (λ j. ply_meaning (scale_of j) bytes ≡ Err (IsRefused ply place)) (same_job words job other named also) refused)
+      (faultless input text ascii read) spilled;
 }
 
 -- ---- devices

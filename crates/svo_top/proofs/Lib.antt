@@ -7,3 +7,4 @@ pub mod MadeSums
 pub mod OpenFileAnswers
 pub mod NamedFileAnswers
 pub mod OneAnswer
+pub mod AsciiBuilds

@@ -184,21 +184,23 @@ module _ (words : List (List ℕ)) (command : Command) (read : IsRead (form_of w
 
 -- ---- a whole run
 
-finished_by : (words : BuildWords) (input out : Change) (scratch : ScratchChange) (err : Change) (ending : Ending) → EndsBuild words input out scratch ending → Says err (line_of ending)
-    → status_of ending ≡ Done → Finished words input out scratch err
-finished_by words input out scratch err (EndsBuilt counts) ends says e = record { counts = counts; built = ends; line = says }
-finished_by words input out scratch err Answered ends says e = absurd ends
-finished_by words input out scratch err (Stopped Done) ends says e = absurd ends
-finished_by words input out scratch err (Stopped (Usage one)) ends says e = absurd ends
-finished_by words input out scratch err (Stopped (Input one place)) ends says e = absurd cc
-finished_by words input out scratch err (Stopped (Range one)) ends says e = absurd cc
-finished_by words input out scratch err (Stopped (Device one)) ends says e = absurd cc
-finished_by words input out scratch err (Stopped (Refused one)) ends says e = absurd cc
-finished_by words input out scratch err (Stopped Memory) ends says e = absurd cc
+finished_by : (words : BuildWords) (text out : Change) (scratch : ScratchChange) (err : Change) (ending : Ending) → EndsBuild words text out scratch ending → Says err (line_of ending)
+    → status_of ending ≡ Done → Finished words text out scratch err
+finished_by words text out scratch err (EndsBuilt counts) ends says e = record { counts = counts; built = ends; line = says }
+finished_by words text out scratch err Answered ends says e = absurd ends
+finished_by words text out scratch err (Stopped Done) ends says e = absurd ends
+finished_by words text out scratch err (Stopped (Usage one)) ends says e = absurd ends
+finished_by words text out scratch err (Stopped (Input one place)) ends says e = absurd cc
+finished_by words text out scratch err (Stopped (Range one)) ends says e = absurd cc
+finished_by words text out scratch err (Stopped (Device one)) ends says e = absurd cc
+finished_by words text out scratch err (Stopped (Refused one)) ends says e = absurd cc
+finished_by words text out scratch err (Stopped Memory) ends says e = absurd cc
 
 run_of_build : (words : BuildWords) (input out : Change) (scratch : ScratchChange) (nodes : StoreChange) (err : Change) (ending : Ending)
     → CarriesOut (Build words) input out scratch nodes ending → Says err (line_of ending) → BuildRun words input out scratch err (status_of ending)
-run_of_build words input out scratch nodes err ending carries_out says = record { finished = finished_by words input out scratch err ending carries_out.0 says; means = carries_out.1 }
+run_of_build words input out scratch nodes err ending carries_out says =
+    let ends = carries_out.0 in
+    record { text = ends.text; ascii = ends.ascii; finished = finished_by words ends.text out scratch err ending ends.ends says; means = ends.means }
 
 no_line : (ending : Ending) → EndsWhy ending → status_of ending ≡ Done → line_of ending ≡ []
 no_line (EndsBuilt counts) ends e = absurd ends
@@ -247,7 +249,7 @@ run_of_question question name range input out scratch nodes err ending carries_o
 
 module _ (input out : Change) (scratch : ScratchChange) (nodes : StoreChange) (err : Change) (ending : Ending) (says : Says err (line_of ending)) (silent : line_of ending ≡ [] → IsKept err) where
   does_it : (command : Command) → CarriesOut command input out scratch nodes ending → Does command input out scratch nodes err (status_of ending)
-  does_it (Build words) carries_out = (run_of_build words input out scratch nodes err ending carries_out says, carries_out.2)
+  does_it (Build words) carries_out = (run_of_build words input out scratch nodes err ending carries_out says, carries_out.1)
   does_it (Why words) carries_out = (run_of_why words input out scratch nodes err ending carries_out silent, carries_out.4)
   does_it (Check words) carries_out = run_of_question _ words.nodes None input out scratch nodes err ending carries_out.0 carries_out.1 silent
   does_it (Has words) carries_out = run_of_question _ words.nodes None input out scratch nodes err ending carries_out.0 carries_out.1 silent

@@ -3,6 +3,7 @@ use Rattle.std.specs.Prelude.{◌≡◌, ◌≢◌, ◌⊎◌, ℕ, ◌+◌, ◌
 use Rattle.octree_specs.specs.OctreeFile.{image_of, IsNodeFile}
 use Rattle.dev_traits.specs.Change.{Change, ScratchChange, IsFaultless, IsKept, IsScratchKept}
 use Rattle.dev_traits.specs.Streams.{asked_of}
+use Rattle.ply_binary.specs.AsciiChanges.{IsReadAsAscii}
 use Rattle.ply_reader.specs.PlyMeaning.{PlyMesh, ply_meaning}
 use Rattle.ply_reader.specs.WholeMeshes.{IsReadTo}
 use Rattle.ply_reader.specs.declared.fault.PlyFault.TheVariants.{Refused as IsRefused}
@@ -25,8 +26,10 @@ use Rattle.svo_top.specs.declared.outcome.RangeFault.{RangeFault}
 abbrev pub counts_of : Built → Counts
 counts_of built = record { cells = built.cells; records = built.records; parts = built.parts }
 
+-- ---- of the text of an input as ASCII
+
 -- the words' job was done, with these counts
-pub record IsBuilt (words : BuildWords) (input out : Change) (scratch : ScratchChange) (counts : Counts) : Type 0 where
+pub record IsBuilt (words : BuildWords) (text out : Change) (scratch : ScratchChange) (counts : Counts) : Type 0 where
   pub job : Job
   pub named : job_from words ≡ Ok job
   pub built : Built
@@ -34,29 +37,29 @@ pub record IsBuilt (words : BuildWords) (input out : Change) (scratch : ScratchC
   pub moved : ℕ
   pub tests : ℕ
   pub tested : ℕ
-  pub done : HasBuilt job (devices_of input out scratch) moves moved tests tested built
+  pub done : HasBuilt job (devices_of text out scratch) moves moved tests tested built
   pub counts_are : counts ≡ counts_of built
 
 -- it was done, and the line counts the cells and records of the file and the parts of the grid
-pub record Finished (words : BuildWords) (input out : Change) (scratch : ScratchChange) (err : Change) : Type 0 where
+pub record Finished (words : BuildWords) (text out : Change) (scratch : ScratchChange) (err : Change) : Type 0 where
   pub counts : Counts
-  pub built : IsBuilt words input out scratch counts
+  pub built : IsBuilt words text out scratch counts
   pub line : Says err (built_line counts.cells counts.records counts.parts)
 
 -- the text was accepted, and the output grew by a front of its node file; less than the whole of it is no node file
-pub record IsCutOff (words : BuildWords) (input out : Change) (scratch : ScratchChange) : Type 0 where
+pub record IsCutOff (words : BuildWords) (text out : Change) (scratch : ScratchChange) : Type 0 where
   pub job : Job
   pub named : job_from words ≡ Ok job
-  pub begun : HasBegun job (devices_of input out scratch)
+  pub begun : HasBegun job (devices_of text out scratch)
   pub part : begun.front.0 < length (image_of 2 begun.grid begun.cells) → IsNodeFile (take begun.front.0 (image_of 2 begun.grid begun.cells)) → ⊥
 
--- the text is refused so, and all bytes before the place were read
-pub record Refused (words : BuildWords) (kind : InputKind) (place : ℕ) (input : Change) : Type 0 where
+-- the text is refused so, and all bytes before the place were given
+pub record Refused (words : BuildWords) (kind : InputKind) (place : ℕ) (text : Change) : Type 0 where
   pub job : Job
   pub named : job_from words ≡ Ok job
   pub ply : PlyKind
   pub kind_is : kind ≡ Ply ply
-  pub cause : (text : List ℕ) → input.before ≡ Some text → (ply_meaning (scale_of job) text ≡ Err (IsRefused ply place)) × IsReadTo place text input.after
+  pub cause : (bytes : List ℕ) → text.before ≡ Some bytes → (ply_meaning (scale_of job) bytes ≡ Err (IsRefused ply place)) × IsReadTo place bytes text.after
 
 -- the scratch was asked for a stream of the vertices and one for each part, at the words' place
 pub record IsAskedFor (words : BuildWords) (scratch : ScratchChange) : Type 0 where
@@ -68,21 +71,23 @@ pub record IsAskedFor (words : BuildWords) (scratch : ScratchChange) : Type 0 wh
 abbrev pub IsUntouched : Change → Change → ScratchChange → Type 0
 IsUntouched input out scratch = IsKept input × IsKept out × IsScratchKept scratch
 
--- what each answer of a build means and leaves, and which one a faultless run gives
-pub record BuildMeans (words : BuildWords) (input out : Change) (scratch : ScratchChange) (status : Status) : Type 0 where
+-- what each answer of a build means and leaves, and which one a faultless run gives; `text` is the input's text as ASCII
+pub record BuildMeans (words : BuildWords) (input text out : Change) (scratch : ScratchChange) (status : Status) : Type 0 where
   pub untouched : (fault : RangeFault) → range_of_build words ≡ Some fault → IsUntouched input out scratch
   pub memory : status ≡ Memory → IsUntouched input out scratch
   pub asked : (scratch.asked_after ≡ scratch.asked_before) ⊎ IsAskedFor words scratch
   pub kept : status ≢ Done → status ≢ Device Write → status ≢ Device Scratch → IsKept out
-  pub cut_off : status ≡ Device Write → IsCutOff words input out scratch
-  pub cut_short : status ≡ Device Scratch → (out.after ≡ out.before) ⊎ IsCutOff words input out scratch
-  pub refused : (kind : InputKind) (place : ℕ) → status ≡ Input kind place → Refused words kind place input
-  pub accepts : (text : List ℕ) (job : Job) (mesh : PlyMesh) → job_from words ≡ Ok job → input.before ≡ Some text → ply_meaning (scale_of job) text ≡ Ok mesh
+  pub cut_off : status ≡ Device Write → IsCutOff words text out scratch
+  pub cut_short : status ≡ Device Scratch → (out.after ≡ out.before) ⊎ IsCutOff words text out scratch
+  pub refused : (kind : InputKind) (place : ℕ) → status ≡ Input kind place → Refused words kind place text
+  pub accepts : (bytes : List ℕ) (job : Job) (mesh : PlyMesh) → job_from words ≡ Ok job → text.before ≡ Some bytes → ply_meaning (scale_of job) bytes ≡ Ok mesh
       → IsFaultless input → IsFaultless out → IsFaultless scratch.streams → (status ≡ Done) ⊎ (status ≡ Memory)
-  pub rejects : (text : List ℕ) (job : Job) (ply : PlyKind) (place : ℕ) → job_from words ≡ Ok job → input.before ≡ Some text → ply_meaning (scale_of job) text ≡ Err (IsRefused ply place)
+  pub rejects : (bytes : List ℕ) (job : Job) (ply : PlyKind) (place : ℕ) → job_from words ≡ Ok job → text.before ≡ Some bytes → ply_meaning (scale_of job) bytes ≡ Err (IsRefused ply place)
       → IsFaultless input → IsFaultless scratch.streams → (status ≡ Input (Ply ply) place) ⊎ (status ≡ Memory)
 
--- a run of `build`
+-- a run of `build`, on the text of the input as ASCII
 pub record BuildRun (words : BuildWords) (input out : Change) (scratch : ScratchChange) (err : Change) (status : Status) : Type 0 where
-  pub finished : status ≡ Done → Finished words input out scratch err
-  pub means : BuildMeans words input out scratch status
+  pub text : Change
+  pub ascii : IsReadAsAscii input text
+  pub finished : status ≡ Done → Finished words text out scratch err
+  pub means : BuildMeans words input text out scratch status

@@ -6,9 +6,9 @@ use Rattle.svo_words.specs.declared.commands.Command.{Command}
 use Rattle.svo_words.specs.declared.commands.Command.TheVariants.{Build, Why, Check, Has, Cells, Lift, Cast, Slice, View, Make, Sum, Near}
 use Rattle.ray_answers.specs.declared.queries.QueryKind.TheVariants.{Rays, Points}
 use Rattle.svo_top.specs.FileQuestion.{Asks, IsLate, MayRefuse, takes_memory as takes_memory_to_ask}
-use Rattle.svo_top.specs.Build.{BuildMeans, IsUntouched}
+use Rattle.svo_top.specs.Build.{IsUntouched}
 use Rattle.svo_top.specs.Commands.{NamesNodes, ReadsInput, MayBeLate, takes_memory}
-use Rattle.svo_top.specs.Endings.{status_of, EndsBuild, EndsWhy, EndsQuietly}
+use Rattle.svo_top.specs.Endings.{status_of, BuildEnds, EndsWhy, EndsQuietly}
 use Rattle.slice_view.specs.Cameras.{CameraShape}
 use Rattle.svo_words.specs.declared.pictures.ViewWords.{ViewWords}
 use Rattle.svo_top.specs.Picturing.{axis_from, camera_of}
@@ -38,7 +38,7 @@ pub record CarriesOutView (words : ViewWords) (input out : Change) (nodes : Stor
 
 -- what each command means
 abbrev pub CarriesOut : Command → Change → Change → ScratchChange → StoreChange → Ending → Type 0
-CarriesOut (Build words) input out scratch nodes ending = EndsBuild words input out scratch ending × BuildMeans words input out scratch (status_of ending) × IsKept nodes
+CarriesOut (Build words) input out scratch nodes ending = BuildEnds words input out scratch ending × IsKept nodes
 CarriesOut (Why words) input out scratch nodes ending = EndsWhy ending × WhyMeans words out (status_of ending) × IsKept input × IsScratchKept scratch × IsKept nodes
 CarriesOut (Check words) input out scratch nodes ending = CarriesOutQuestion question.Check words.nodes None input out nodes ending × IsScratchKept scratch
 CarriesOut (Has words) input out scratch nodes ending = CarriesOutQuestion (question.Has words.code) words.nodes None input out nodes ending × IsScratchKept scratch

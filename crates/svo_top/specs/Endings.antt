@@ -1,7 +1,8 @@
 -- What the ending of a command means for the status and the line of the run.
 use Rattle.std.specs.Prelude.{ℕ, List, [], ⊤, Result, Ok, Err}
 use Rattle.dev_traits.specs.Change.{Change, ScratchChange}
-use Rattle.svo_top.specs.Build.{IsBuilt, counts_of}
+use Rattle.ply_binary.specs.AsciiChanges.{IsReadAsAscii}
+use Rattle.svo_top.specs.Build.{IsBuilt, BuildMeans, counts_of}
 use Rattle.build_core.specs.declared.jobs.Built.{Built as BuildResult}
 use Rattle.build_core.specs.declared.faults.BuildFault.{BuildFault}
 use Rattle.build_core.specs.declared.faults.BuildFault.TheVariants as fault
@@ -46,6 +47,13 @@ EndsBuild words input out scratch (Stopped (Device Write)) = ⊤
 EndsBuild words input out scratch (Stopped (Device Nodes)) = ⊥
 EndsBuild words input out scratch (Stopped (Refused refusal)) = ⊥
 EndsBuild words input out scratch (Stopped Memory) = ⊤
+
+-- how a build of the input's text as ASCII ends, and what that means
+pub record BuildEnds (words : BuildWords) (input out : Change) (scratch : ScratchChange) (ending : Ending) : Type 0 where
+  pub text : Change
+  pub ascii : IsReadAsAscii input text
+  pub ends : EndsBuild words text out scratch ending
+  pub means : BuildMeans words input text out scratch (status_of ending)
 
 -- a question that is answered has no line, and it reads no input
 abbrev pub EndsWhy : Ending → Type 0

@@ -5,10 +5,9 @@ ghost use Rattle.dev_traits.specs.Change.{change_of, scratch_change_of};
 ghost use Rattle.dev_traits.specs.Streams.{asked_of};
 ghost use Rattle.build_core.specs.Meshes.{IsJob};
 ghost use Rattle.room_plan.specs.Rooms.{HasRoomOf};
-ghost use Rattle.svo_top.specs.Build.{BuildMeans};
-ghost use Rattle.svo_top.specs.CoreRuns.{BuildsJob};
+ghost use Rattle.svo_top.specs.CoreRuns.{BuildsJob, BuildsAscii};
 ghost use Rattle.svo_top.specs.Causes.{DeviceCause};
-ghost use Rattle.svo_top.specs.Endings.{status_of, ending_of, EndsBuild};
+ghost use Rattle.svo_top.specs.Endings.{status_of, ending_of, BuildEnds};
 ghost use Rattle.svo_top.specs.Ranges.{RangeIs, job_from, range_of_build};
 
 use crate::jobs::job_from;
@@ -16,6 +15,7 @@ use crate::outcome::{Device, InputKind, Status};
 use crate::reporting::{Counts, Ending};
 use build_core::{BuildFault, Built, Job, build_core};
 use dev_traits::{ByteSink, ByteSource, Scratch};
+use ply_binary::{AsciiReading, AsciiSource, HeldInput, Start};
 use room_plan::Room;
 use std::alloc::{AllocError, Global};
 use std::marker::Brand;
@@ -23,7 +23,7 @@ use std::sync::ledger::{Blank, Ledger};
 use svo_base::Steps;
 use svo_words::{BuildWords, Text};
 
-/// Builds the octree of the mesh on `input`, and puts its node file out, in the memory that the words
+/// Builds the octree of the mesh on `input`, in ASCII or binary little-endian PLY, and puts its node file out, in the memory that the words
 /// allow. All of it is asked for before anything is read. The mesh is read to its end and accepted
 /// before anything is put out.
 pub fn build<I: ByteSource, O: ByteSink, S: Scratch>(
@@ -35,14 +35,10 @@ pub fn build<I: ByteSource, O: ByteSink, S: Scratch>(
 ) -> Ending
     requires unasked { S.asked scratch.old ≡ None }
     ensures range { RangeIs (range_of_build words.now) (status_of result) }
-    ensures ends { EndsBuild words.now
+    ensures ends { BuildEnds words.now
         (change_of I.rest I.faults input.old input.new)
         (change_of O.written O.faults out.old out.new)
         (scratch_change_of S.told S.asked S.faults scratch.old scratch.new) result }
-    ensures means { BuildMeans words.now
-        (change_of I.rest I.faults input.old input.new)
-        (change_of O.written O.faults out.old out.new)
-        (scratch_change_of S.told S.asked S.faults scratch.old scratch.new) (status_of result) }
     ensures read { DeviceCause Device.Read (change_of I.rest I.faults input.old input.new) (status_of result) }
     ensures write { DeviceCause Device.Write (change_of O.written O.faults out.old out.new) (status_of result) }
     ensures scratch { DeviceCause Device.Scratch (change_of S.told S.faults scratch.old scratch.new) (status_of result) }
@@ -56,7 +52,30 @@ pub fn build<I: ByteSource, O: ByteSink, S: Scratch>(
         Ok(room) => room,
     };
     let place = &words.scratch;
-    ending_of(build_in(&job, place, input, out, scratch, &mut room))
+    ending_of(build_text::<I, O, S, Brand>(&job, place, input, out, scratch, &mut room))
+}
+
+/// Builds the mesh of an input that is read as ASCII, and that told at the start what `T` tells.
+fn build_text<I: ByteSource, O: ByteSink, S: Scratch, T: Start>(
+    job: &Job,
+    place: &Text,
+    input: &mut I,
+    out: &mut O,
+    scratch: &mut S,
+    room: &mut Room,
+) -> Result<Built, BuildFault>
+    requires start { T.told ≡ I.rest input.old }
+    requires job { IsJob job.now }
+    requires room { HasRoomOf job.now.plan room.old }
+    requires unasked { S.asked scratch.old ≡ None }
+    ensures { BuildsAscii job.now place.now
+        (change_of I.rest I.faults input.old input.new)
+        (change_of O.written O.faults out.old out.new)
+        (scratch_change_of S.told S.asked S.faults scratch.old scratch.new) result }
+{
+    let source = AsciiSource::new(HeldInput::new(input));
+    let mut text = AsciiReading::<I, T>::new(source);
+    build_in(job, place, &mut text, out, scratch, room)
 }
 
 /// Builds in a room, with a counter of moves and one of tests of its own.
@@ -71,10 +90,11 @@ pub fn build_in<I: ByteSource, O: ByteSink, S: Scratch>(
     requires job { IsJob job.now }
     requires room { HasRoomOf job.now.plan room.old }
     requires unasked { S.asked scratch.old ≡ None }
-    ensures { BuildsJob job.now place.now
+    ensures builds { BuildsJob job.now place.now
         (change_of I.rest I.faults input.old input.new)
         (change_of O.written O.faults out.old out.new)
         (scratch_change_of S.told S.asked S.faults scratch.old scratch.new) result }
+    ensures lender { I.lender input.new ≡ I.lender input.old }
 {
     let moves = Blank::new(1);
     let tests = Blank::new(1);
@@ -101,10 +121,11 @@ fn build_counted<I: ByteSource, O: ByteSink, S: Scratch, L: Ledger, T: Ledger>(
     requires job { IsJob job.now }
     requires room { HasRoomOf job.now.plan room.old }
     requires unasked { S.asked scratch.old ≡ None }
-    ensures { BuildsJob job.now place.now
+    ensures builds { BuildsJob job.now place.now
         (change_of I.rest I.faults input.old input.new)
         (change_of O.written O.faults out.old out.new)
         (scratch_change_of S.told S.asked S.faults scratch.old scratch.new) result }
+    ensures lender { I.lender input.new ≡ I.lender input.old }
 {
     let mut moves = Steps::<L>::new(moves);
     let mut tests = Steps::<T>::new(tests);

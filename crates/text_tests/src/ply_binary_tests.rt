@@ -3,7 +3,7 @@
 ghost use Rattle.std.specs.Prelude.{◌≤◌, ◌<◌};
 
 use dev_traits::{ByteSource, MemSource};
-use ply_binary::AsciiSource;
+use ply_binary::{AsciiSource, HeldInput};
 
 /// How many bytes a read of the input gives at most, and how many are asked for at a time.
 const SIZES: &[usize] = &[1, 7, 4096];
@@ -85,8 +85,7 @@ fn binary_files_come_as_text(rt: HostRuntime) {
             for size in SIZES {
                 assert!(rt; 0 < *size && *size <= 4096);
                 let mut input = MemSource::new(rt.alloc(), file, *piece, &[]).expect(&rt, "memory");
-                let mut block = [0; 2048];
-                let mut source = AsciiSource::new(&mut input, &mut block);
+                let mut source = AsciiSource::new(HeldInput::new(&mut input));
                 assert!(rt;
                     gives(&mut source, text, *size),
                     "{piece} bytes read, {size} asked for: {text:?}"
@@ -100,8 +99,7 @@ fn binary_files_come_as_text(rt: HostRuntime) {
 fn a_refused_read_is_answered_and_leaves_the_text(rt: HostRuntime) {
     let (file, text) = FILES[0];
     let mut input = MemSource::new(rt.alloc(), file, 7, &[1, 5, 26]).expect(&rt, "memory");
-    let mut block = [0; 2048];
-    let mut source = AsciiSource::new(&mut input, &mut block);
+    let mut source = AsciiSource::new(HeldInput::new(&mut input));
     let mut room = [0; 64];
     let mut refused: u32 = 0;
     let mut left = text;

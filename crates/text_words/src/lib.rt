@@ -6,7 +6,7 @@ mod numbers;
 mod words;
 
 pub use numbers::{number, three_numbers};
-pub use words::line_words;
+pub use words::{line_words, next_word};
 
 #[cfg(test)]
 mod tests;

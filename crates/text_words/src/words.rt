@@ -23,7 +23,7 @@ pub fn line_words<const N: usize>(line: &[u8]) -> ArrayVec<&[u8], N>
 }
 
 /// The word that stands first in a text, and what stands behind it.
-fn next_word(text: &[u8]) -> Option<(&[u8], &[u8])>
+pub fn next_word(text: &[u8]) -> Option<(&[u8], &[u8])>
     ensures { MatchOption result (next_word text.now ≡ None) (λ found. next_word text.now ≡ Some (found.0.now, found.1.now)) }
 {
     let text = &text[blanks(text)..];

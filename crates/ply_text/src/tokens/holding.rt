@@ -27,13 +27,14 @@ fn read_behind<I: ByteSource>(input: &mut I, block: &mut [u8], to: usize) -> Res
     ensures kept { take to block.new ≡ take to block.old }
     ensures bound { IfOk result (λ count. to + count ≤ length block.new) }
     ensures bytes { TakesFront (I.rest input.old) (I.rest input.new) (drop to block.new) result }
+    ensures lender { I.lender input.new ≡ I.lender input.old }
     ensures cause { HasCause (I.faults input.old) (I.faults input.new) result }
 {
     input.read(&mut block[to..])
 }
 
-/// A line's bytes end before a CR that stands directly before its LF.
-fn without_return(line: &[u8]) -> usize
+/// How many bytes of a line stand before the CR that may stand directly before its LF.
+pub fn without_return(line: &[u8]) -> usize
     ensures bytes { take result line.now ≡ without_return line.now }
     ensures bound { result ≤ length line.now }
 {

@@ -11,7 +11,7 @@ returns-in_err-hold_value-clause-moves g c =
     let old = c.args.self.now in
     let holds = c.hold_value.ensures.holds in
     match_err c.from_residual.result _ _ c.from_residual.ensures.0
-    (moves_then old _ c.hold_value.new.self [] holds (record { input = holds.keeps.input; block = holds.keeps.block }) refl (inl (λ more. refl)))
+    (moves_then old _ c.hold_value.new.self [] holds (record { input = holds.keeps.input }) refl (inl (λ more. refl)))
 
 pub returns-clause-moves : goal.returns-clause-moves
 returns-clause-moves g c =
@@ -21,7 +21,7 @@ returns-clause-moves g c =
     let given = take c.give_held_values.result c.give_held_values.new.into in
     let holds = c.hold_value.ensures.holds in
     let keeps = c.give_held_values.ensures.keeps in
-    let lent : SameLent old new = record { input = keeps.input ∙ holds.keeps.input; block = keeps.block ∙ holds.keeps.block } in
+    let lent : SameLent old new = record { input = keeps.input ∙ holds.keeps.input } in
     let text = c.give_held_values.ensures.text in
     let by_held : (8 ≤ length (held mid)) ⊎ IsAtEnd (g.I.ByteSource.rest mid.input.now)
     → ((more : List ℕ) → old.text ++ left_by old.stage (declared old.header) old.place old.body (held mid ++ more) ≡ given ++ text_behind new more)

@@ -3,4 +3,4 @@ use Rattle.ply_reader.specs.Declarations.{declared}
 use Rattle.ply_binary.proofs.source.AsciiSource.new.Goals as goal
 
 pub invariant_of-result : goal.invariant_of-result
-invariant_of-result g c = record { within = omega arith; inside = c.new-4.ensures.inside (declared c.new-3.result) }
+invariant_of-result g c = record { within = omega arith; inside = c.new-3.ensures.inside (declared c.new-2.result) }

@@ -11,7 +11,7 @@ returns-in_err-size-clause-moves g c =
     let old = c.args.self.now in
     let mid = c.hold_line.new.self in
     let holds = c.hold_line.ensures.holds in
-    moves_then old _ mid [] holds (record { input = holds.keeps.input; block = holds.keeps.block }) refl (inl (λ more. refl))
+    moves_then old _ mid [] holds (record { input = holds.keeps.input }) refl (inl (λ more. refl))
 
 pub returns-clause-moves : goal.returns-clause-moves
 returns-clause-moves g c =
@@ -20,7 +20,7 @@ returns-clause-moves g c =
     let new = c.take_line.new.self in
     let size = c.in_ok-size.size in
     let holds = c.hold_line.ensures.holds in
-    let lent : SameLent old new = record { input = c.take_line.ensures.keeps.input ∙ holds.keeps.input; block = c.take_line.ensures.keeps.block ∙ holds.keeps.block } in
+    let lent : SameLent old new = record { input = c.take_line.ensures.keeps.input ∙ holds.keeps.input } in
     let left = c.take_line.ensures.left in
     let by_seen : (size < length (held mid)) ⊎ ((1024 < size) ⊎ IsAtEnd (g.I.ByteSource.rest mid.input.now))
     → ((more : List ℕ) → old.text ++ left_by old.stage (declared old.header) old.place old.body (held mid ++ more) ≡ text_behind new more)

@@ -12,7 +12,7 @@ pub returns-then-not-is_empty-clause-moves : goal.returns-then-not-is_empty-clau
 returns-then-not-is_empty-clause-moves g c =
     let mid = c.prepare.new.self in
     let given = take c.give.result c.give.new.into in
-    moves_on c.prepare.ensures.moves (moves_given mid _ given (record { input = refl; block = refl }) refl
+    moves_on c.prepare.ensures.moves (moves_given mid _ given (record { input = refl }) refl
     (λ more.
     let left = left_by mid.stage (declared mid.header) mid.place mid.body (held mid.held ++ more) in
     ap (λ t. t ++ left) c.give.ensures.text ∙ append_assoc given c.give.new.self left))

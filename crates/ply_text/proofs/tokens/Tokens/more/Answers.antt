@@ -20,7 +20,7 @@ returns-in-Ok-clause-reads g c =
     ap (λ from. slice_range after from (front.to + count)) c.to_front.ensures.front ∙ held_more bytes front.block.now after front.to count was c.read_behind.ensures.kept in
     record {
       holds = record {
-        keeps = record { input = kept.input; block = kept.block; stopped = kept.stopped };
+        keeps = record { input = kept.input; block = kept.block; lender = c.read_behind.ensures.lender ∙ kept.lender; stopped = kept.stopped };
         place = c.to_front.ensures.holds.place;
         left = ap (λ held. prepend_known held rest) grown
             ∙ left_same bytes more rest (g.I.ByteSource.rest front.input.now) c.in-Ok.ensures.bytes.0

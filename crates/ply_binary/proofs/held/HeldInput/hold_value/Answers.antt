@@ -1,6 +1,6 @@
 use Rattle.std.proofs.Common.{arith}
 use Rattle.ply_binary.proofs.HeldBytes.{HoldsMore-trans}
-use Rattle.ply_binary.proofs.held.Held.hold_value.Goals as goal
+use Rattle.ply_binary.proofs.held.HeldInput.hold_value.Goals as goal
 
 pub returns-in_err-more-clause-holds : goal.returns-in_err-more-clause-holds
 returns-in_err-more-clause-holds g c = HoldsMore-trans c.reads.invariant.holds c.more.ensures.holds

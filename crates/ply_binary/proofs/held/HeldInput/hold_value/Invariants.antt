@@ -1,6 +1,6 @@
 use Rattle.std.proofs.Common.{◌≤◌, ◌-◌}
 use Rattle.ply_binary.specs.HeldStates.{HoldsMore}
-use Rattle.ply_binary.proofs.held.Held.hold_value.Given as goal
+use Rattle.ply_binary.proofs.held.HeldInput.hold_value.Given as goal
 
 -- bytes came behind those that were held
 abbrev pub invariant-reads : goal.invariant-reads
