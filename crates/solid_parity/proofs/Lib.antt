@@ -6,3 +6,4 @@ pub mod PartCodes
 pub mod Undersides
 pub mod Highest
 mod WorkedSolids
+pub mod Growing

@@ -11,6 +11,6 @@ mod prepared;
 mod seen;
 
 pub use columns::PartColumns;
-pub use laws::parity_agrees_from_below;
+pub use laws::{parity_agrees_from_below, solid_cells_grow_one_by_one};
 pub use notes::note_column;
 pub use prepared::Shape;
