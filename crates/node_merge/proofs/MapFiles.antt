@@ -1,6 +1,5 @@
 -- The file of the map whose cells were pushed, or a front of it.
-use Rattle.std.proofs.Common.{◌≡◌, ℕ, zero, suc, ◌+◌, ◌-◌, ◌*◌, ◌^◌, ◌<◌, ◌≤◌, List, [], ◌∷◌, ◌++◌, length, Option, None, Some, Result, Ok, Err, inl, inr, refl, sym, ap, subst, ◌∙◌, arith}
-use Rattle.std.specs.Prelude.{IfSome, All}
+use Rattle.std.proofs.Common.{◌≡◌, ℕ, zero, suc, ◌+◌, ◌*◌, ◌^◌, ◌≤◌, List, ◌++◌, length, Option, Some, Result, Ok, Err, inr, refl, sym, ap, subst, ◌∙◌, arith}
 use Rattle.std.specs.Io.KnownBytes.{append_known}
 use Rattle.dev_traits.specs.declared.device.ByteSink.{Ghosts}
 use Rattle.svo_base.specs.GridShape.{GridShape}
@@ -24,7 +23,6 @@ use Rattle.level_queues.specs.declared.levels.LevelQueues.{LevelQueues}
 use Rattle.cell_lists.specs.Lifted.{Accepts}
 use Rattle.cell_lists.specs.Lifted as lifted
 use Rattle.cell_lists.proofs.Lifts.{ended_put, closed_put, all_put, few_moves}
-use Rattle.node_merge.specs.Combined.{cells_below}
 use Rattle.node_merge.specs.Pushing.{PutsMap, PushesAll, HoldsFirst}
 use Rattle.node_merge.proofs.Below.{all_ascend}
 use Rattle.node_merge.proofs.ToMaps.{Covers}

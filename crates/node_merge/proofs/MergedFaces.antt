@@ -1,7 +1,6 @@
 -- The next cell of two maps together.
-use Rattle.std.proofs.Common.{◌≡◌, ℕ, ◌+◌, ◌^◌, ◌<◌, ◌≤◌, List, Option, None, Some, refl, sym, ap, subst, ◌∙◌, arith, Result, Ok, Err}
-use Rattle.std.specs.Prelude.{◌*◌, ◌-◌, IfSome}
-use Rattle.std.specs.Int.{w64}
+use Rattle.std.proofs.Common.{◌≡◌, ℕ, ◌+◌, ◌^◌, ◌<◌, ◌≤◌, List, Option, None, Some, refl, sym, ap, subst, ◌∙◌, arith, Err}
+use Rattle.std.specs.Prelude.{◌*◌, IfSome}
 use Rattle.cell_lists.specs.Lifted.{Accepts}
 use Rattle.node_check.proofs.Parents.{cells_small}
 use Rattle.node_check.specs.declared.walking.WalkFault.{WalkFault}

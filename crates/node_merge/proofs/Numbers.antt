@@ -2,9 +2,7 @@
 use Rattle.std.proofs.Common.{◌≡◌, ℕ, zero, suc, ◌+◌, ◌*◌, ◌^◌, ◌<◌, List, [], ◌∷◌, map, drop, get_or, Option, None, Some, ℤ, pos, negsuc, refl, sym, ap, ◌∙◌, arith}
 use Rattle.std.proofs.Math.Nat.{pow-suc}
 use Rattle.std.proofs.lemmas.Nat.{pow_pos}
-use Rattle.svo_base.specs.GridShape.{GridShape}
 use Rattle.node_file.specs.FileView.{FileView}
-use Rattle.node_file.specs.declared.records.Totals.{Totals}
 use Rattle.node_merge.specs.Numbered.{list_number, told_number, signed_number, view_number}
 
 twice : (n x : ℕ) → 2 ^ suc n * x ≡ 2 * (2 ^ n * x)

@@ -1,11 +1,10 @@
 -- Cells are pushed one after another toward maps.
-use Rattle.std.proofs.Common.{◌≡◌, ℕ, ◌+◌, ◌-◌, ◌*◌, ◌^◌, ◌<◌, ◌≤◌, List, [], ◌∷◌, ◌++◌, Option, None, Some, refl, sym, ap, subst, ◌∙◌, arith}
+use Rattle.std.proofs.Common.{◌≡◌, ℕ, ◌+◌, ◌-◌, ◌^◌, ◌<◌, ◌≤◌, List, [], ◌∷◌, ◌++◌, Option, None, Some, refl, sym, ap, ◌∙◌, arith}
 use Rattle.dev_traits.specs.declared.device.ByteSink.{Ghosts}
 use Rattle.svo_base.specs.GridShape.{GridShape}
 use Rattle.octree_specs.specs.Cells.{Cell}
 use Rattle.node_file.specs.declared.writer.NodeWriter.{NodeWriter}
 use Rattle.level_queues.specs.PushedFiles.{HasPushed}
-use Rattle.level_queues.specs.Fronts.{HoldsFront}
 use Rattle.level_queues.specs.declared.levels.LevelQueues.{LevelQueues}
 use Rattle.level_queues.proofs.PushedFiles.{PushesFront, PushesCell, push_front, push_on, pushed_to}
 use Rattle.node_merge.specs.Combined.{cells_below}

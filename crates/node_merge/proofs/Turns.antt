@@ -1,13 +1,12 @@
 -- The two files of a pair, in their turns.
-use Rattle.std.proofs.Common.{◌≡◌, ℕ, List, [], ◌∷◌, get_or, sym, ap, subst, ◌∙◌}
+use Rattle.std.proofs.Common.{◌≡◌, ℕ, get_or, sym, ap, subst, ◌∙◌}
 use Rattle.std.specs.Prelude.{Result}
 use Rattle.node_check.specs.Counts.{HasCauseOf}
 use Rattle.dev_traits.specs.declared.file_device.NodeStore.{Ghosts}
-use Rattle.node_file.specs.FileView.{FileView, IsFileView}
+use Rattle.node_file.specs.FileView.{IsFileView}
 use Rattle.node_file.proofs.Frames.{file_view}
-use Rattle.node_merge.specs.Paired.{half_bytes, IsHalf}
+use Rattle.node_merge.specs.Paired.{half_bytes}
 use Rattle.node_merge.specs.Sides.{turn_view, pair_number, side_number}
-use Rattle.node_merge.specs.Numbered.{list_number, view_number}
 use Rattle.node_merge.specs.declared.pairs.Pair.{Pair}
 use Rattle.node_merge.specs.declared.pairs.Turn.{Turn}
 use Rattle.node_merge.specs.declared.pairs.Turn.TheVariants.{First, Second}

@@ -4,7 +4,7 @@ use Rattle.octree_specs.specs.Cells.{Cell}
 use Rattle.octree_specs.specs.Formats.{StandFor}
 use Rattle.node_file.specs.FileView.{FileView}
 use Rattle.node_check.specs.Walks.{face_at}
-use Rattle.node_merge.specs.Combined.{face_in, merged, least_under, coarse}
+use Rattle.node_merge.specs.Combined.{face_in, merged, coarse}
 use Rattle.node_merge.specs.declared.kinds.MergeKind.{MergeKind}
 
 -- the file tells its words, and they stand for these cells

@@ -1,5 +1,5 @@
 -- The two files of a pair, as contracts see them.
-use Rattle.std.specs.Prelude.{ℕ, ◌+◌, List, [], ◌∷◌, Result, Ok, Err}
+use Rattle.std.specs.Prelude.{ℕ, [], ◌∷◌, Result, Ok, Err}
 use Rattle.dev_traits.specs.declared.file_device.NodeStore.{Ghosts}
 use Rattle.node_file.specs.FileView.{FileView}
 use Rattle.node_merge.specs.Numbered.{list_number, view_number}

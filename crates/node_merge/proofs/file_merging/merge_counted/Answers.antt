@@ -1,5 +1,5 @@
 -- The cells are pushed, and then the queues and the writer are finished.
-use Rattle.std.proofs.Common.{rules, ◌≡◌, ◌≤◌, List, [], Ok, Err, refl, subst, ◌∙◌}
+use Rattle.std.proofs.Common.{rules, [], Err, refl, subst, ◌∙◌}
 use Rattle.svo_base.specs.GridShape.{GridShape}
 use Rattle.node_file.specs.declared.records.Totals.{Totals}
 use Rattle.node_check.specs.declared.stops.AnswerStop.TheVariants.{WriteFault}

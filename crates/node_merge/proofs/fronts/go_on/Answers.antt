@@ -1,5 +1,5 @@
 -- The cell given last stays the first one.
-use Rattle.std.proofs.Common.{◌≡◌, None, Some, sym, subst, arith}
+use Rattle.std.proofs.Common.{sym, subst, arith}
 use Rattle.node_merge.proofs.Heads.{AtLeast, front_later}
 use Rattle.node_merge.proofs.fronts.go_on.Goals as goal
 

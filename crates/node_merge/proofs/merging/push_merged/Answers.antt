@@ -1,6 +1,5 @@
 -- Each cell of either file is met once, in ascending order of their codes.
-use Rattle.std.proofs.Common.{◌≡◌, ℕ, ◌+◌, ◌*◌, ◌-◌, ◌^◌, ◌<◌, ◌≤◌, List, [], Option, None, Some, refl, sym, ap, subst, ◌∙◌, arith}
-use Rattle.svo_base.specs.GridShape.{GridShape}
+use Rattle.std.proofs.Common.{◌≡◌, ℕ, ◌+◌, ◌^◌, ◌<◌, ◌≤◌, Some, refl, sym, subst, ◌∙◌, arith}
 use Rattle.node_file.specs.FileView.{FileView}
 use Rattle.node_merge.specs.Maps.{IsMerged, AreMergedFaces}
 use Rattle.node_merge.specs.Pushing.{IsFront, IsNextFace, least_code}

@@ -1,5 +1,5 @@
 -- A cell with a face is pushed, and one without is passed by.
-use Rattle.std.proofs.Common.{◌≡◌, ◌+◌, ◌-◌, ◌^◌, ◌≤◌, ◌<◌, Option, subst, arith}
+use Rattle.std.proofs.Common.{◌-◌, ◌^◌, ◌≤◌, subst, arith}
 use Rattle.std.specs.Prelude.{IfSome}
 use Rattle.node_merge.specs.Maps.{IsMerged, AreMergedFaces}
 use Rattle.node_merge.specs.Pushing.{IsNextFace}

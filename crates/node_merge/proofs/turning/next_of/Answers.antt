@@ -1,5 +1,5 @@
 -- The pair is what the side was read through.
-use Rattle.std.proofs.Common.{rules, ◌≡◌}
+use Rattle.std.proofs.Common.{rules}
 use Rattle.node_check.specs.declared.walking.WalkFault.TheVariants.{Failed}
 use Rattle.node_merge.proofs.Turns.{same_pair, first_kept, second_kept, store_kept, cause_kept}
 use Rattle.node_merge.proofs.turning.next_of.Goals as goal
