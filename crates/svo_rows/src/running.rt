@@ -1,11 +1,14 @@
 //! A run of the program over devices in memory, and what it left.
 
+ghost use Rattle.std.specs.Prelude.{◌≡◌, None};
+
 use crate::entries::Device;
 use crate::faults::RowFault;
 use crate::setups::{Setup, StoreFile};
 use crate::watching::WatchedScratch;
 use dev_traits::{ByteSource, MemSink, MemSource, MemStore, NodeStore};
 use std::alloc::Global;
+use svo_base::Words;
 use svo_top::run;
 
 /// What a run left.
@@ -117,7 +120,7 @@ pub fn run_once(alloc: Global, setup: &Setup) -> Result<Outcome, RowFault> {
         scratch_fails.as_slice(),
     )?;
     let mut nodes = store_of(alloc, setup.files.as_slice(), node_fails.as_slice())?;
-    let status = run(
+    let status = code_of_run(
         alloc,
         &words,
         &mut input,
@@ -136,7 +139,7 @@ pub fn run_once(alloc: Global, setup: &Setup) -> Result<Outcome, RowFault> {
     };
     let most = (setup.input.len() as u64).saturating_add(read_fails.len() as u64);
     Ok(Outcome {
-        status: status.code(),
+        status,
         out,
         err,
         scratch,
@@ -144,4 +147,19 @@ pub fn run_once(alloc: Global, setup: &Setup) -> Result<Outcome, RowFault> {
         read,
         nodes,
     })
+}
+
+/// The exit status of a run. What else the run promises is not asked here, where rows are compared.
+fn code_of_run(
+    alloc: Global,
+    words: &Words,
+    input: &mut MemSource,
+    out: &mut MemSink,
+    err: &mut MemSink,
+    scratch: &mut WatchedScratch,
+    nodes: &mut MemStore,
+) -> u8
+    requires { scratch.old.asked ≡ None }
+{
+    run(alloc, words, input, out, err, scratch, nodes).code()
 }
