@@ -57,19 +57,34 @@ other_kind() {
     fi
 }
 
+# Whether the input is binary little-endian PLY, whose places behind the header are those of its ASCII text.
+is_binary() {
+    input_is_file && head -c 4096 /proc/self/fd/3 | grep -aqE '^[[:blank:]]*format[[:blank:]]+binary_little_endian[[:blank:]]'
+}
+
+hint_of_binary() {
+    case $1 in
+    BadNumber) hint "a coordinate of a binary file is a whole number here; floats come in by svo ascii --decimals n FILE | svo $command .." ;;
+    Truncated) hint 'the file ends before the rows that its header counts: was it copied whole?' ;;
+    *) hint 'docs/FORMATS.md tells what a binary file has; behind its header, places are those of its ASCII text' ;;
+    esac
+}
+
 hint_of_input() {
     kind=${said#input: } place=${said##* at }
     kind=${kind%% at *}
     case $kind in
     NotPly) hint "$(other_kind)" && return ;;
-    BadFormat) hint "this is not ASCII PLY 1.0; if it is binary PLY: svo ascii --decimals n FILE | svo $command .." && return ;;
+    BadFormat) hint "this is neither ASCII PLY 1.0 nor binary_little_endian; of other binary PLY: svo ascii --decimals n FILE | svo $command .." && return ;;
     esac
+    is_binary && hint_of_binary "$kind" && return
     where=$(line_at "$place")
     case $kind in
     NotWhole) hint "${where:+$where; }keep its decimals by --decimals n ('svo survey' tells how many there are), or cut what is finer by --cut" ;;
     OutOfRange) hint "${where:+$where; }times ten to the --decimals, a coordinate is at most 1073741824: keep fewer, with --cut if there are more" ;;
     Truncated) hint "the text ends before the rows that its header counts: was it copied whole?" ;;
     BadRay) hint "${where:+$where; }a ray is six whole numbers: its origin x y z and its direction x y z" ;;
+    BadPoint) hint "${where:+$where; }a point is three whole numbers: x y z" ;;
     *) hint "${where:+$where; }'svo help $command' and docs/FORMATS.md tell what a text has there" ;;
     esac
 }
@@ -79,6 +94,7 @@ hint_of_range() {
     'range: memory least '*) hint "the depth needs more: give --memory ${said##* } or more, up to 2147483648" ;;
     'range: wide') hint 'the cell times 2^depth is at most 4294967296: give a smaller --cell or --depth, or --fit' ;;
     'range: ray at '*) where=$(line_at "${said##* }") && hint "$where; an origin is at most 2^40, a direction at most 2^30 and not 0 0 0" ;;
+    'range: point at '*) where=$(line_at "${said##* }") && hint "$where; a coordinate of a point is at most 2^40" ;;
     *) hint "'svo help $command' tells the range" ;;
     esac
 }
