@@ -1,4 +1,4 @@
-//! Node files from other node files: two put together, and one made coarser.
+//! Two node files put together into one.
 #![tactic(auto)]
 
 mod file_merging;
