@@ -1,6 +1,6 @@
 -- A front of a list that was copied over the front of another.
-use Rattle.std.proofs.Common.{◌≡◌, ℕ, [], min, ◌+◌, ◌-◌, ◌≤◌, List, ◌++◌, length, take, drop, arith, refl, sym, ap, ◌∙◌}
-use Rattle.std.proofs.lemmas.List.{take_at, take_min, drop-drop, take-append-drop}
+use Rattle.std.proofs.Common.{◌≡◌, ℕ, [], min, ◌+◌, ◌-◌, ◌≤◌, List, ◌++◌, length, take, drop, arith}
+use Rattle.std.proofs.lemmas.List.{take_at, take_min, drop-drop}
 use Rattle.std.proofs.lemmas.Grind.{common_steps}
 
 -- the bytes from a place on are those that were copied and those after them

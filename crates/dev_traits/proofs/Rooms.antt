@@ -1,5 +1,5 @@
 -- Lists with room as the streams of a scratch.
-use Rattle.std.proofs.Common.{◌≡◌, ℕ, zero, suc, ◌+◌, ◌-◌, ◌<◌, ◌≤◌, List, [], ◌∷◌, ◌++◌, length, take, drop, map, get_or, slice_index_or, slice_set, replicate, arith, min, Option, refl, sym, ap, ◌∙◌, subst}
+use Rattle.std.proofs.Common.{◌≡◌, ℕ, zero, suc, ◌+◌, ◌-◌, ◌<◌, ◌≤◌, List, [], ◌∷◌, ◌++◌, length, take, drop, map, slice_index_or, slice_set, replicate, arith, min, Option, refl, sym, ap, subst}
 use Rattle.std.specs.List.{All}
 use Rattle.std.proofs.lemmas.List.{drop-set-lt, length-set, length-append, length-take}
 use Rattle.std.proofs.lemmas.List.Elements.{All-weaker, All-set, All-head, All-tail, All-drop, All-push}

@@ -1,5 +1,5 @@
 -- Streams of bytes on a scratch, numbered from 0. Streams that a scratch does not tell stay untold.
-use Rattle.std.specs.Prelude.{◌≡◌, ℕ, zero, suc, ◌+◌, ◌≤◌, List, [], ◌∷◌, ◌++◌, length, take, drop, get_or, replicate, Option, Some, Result, IfSome, IfOk, OnOk, MatchResult}
+use Rattle.std.specs.Prelude.{◌≡◌, ℕ, zero, suc, ◌+◌, ◌≤◌, List, [], ◌∷◌, ◌++◌, length, take, drop, get_or, replicate, Option, Result, IfSome, IfOk, OnOk, MatchResult}
 use Rattle.std.specs.Option.{option_map}
 
 -- what a scratch was asked to start: how many streams, and the first 201 bytes of the place

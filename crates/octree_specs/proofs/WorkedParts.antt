@@ -1,5 +1,5 @@
 -- Plans and parts of small grids, computed from the definitions alone.
-use Rattle.std.proofs.Common.{◌≡◌, ℕ, List, [], ◌∷◌, pos, None, Some, refl}
+use Rattle.std.proofs.Common.{◌≡◌, ℕ, None, Some, refl}
 use Rattle.octree_specs.specs.MemoryPlan.{Plan, plan_at, plan_of, least_memory, plan_need}
 
 plan_is : ℕ → ℕ → ℕ → ℕ → ℕ → Plan

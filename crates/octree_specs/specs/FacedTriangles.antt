@@ -1,5 +1,5 @@
 -- The triangles of a mesh, each with the number of the face that it came from.
-use Rattle.std.specs.Prelude.{ℕ, ◌+◌, suc, List, [], ◌∷◌, ◌++◌, map}
+use Rattle.std.specs.Prelude.{ℕ, ◌+◌, List, [], ◌∷◌, ◌++◌, map}
 use Rattle.svo_base.specs.declared.shapes.Point.{Point}
 use Rattle.svo_base.specs.declared.shapes.Triangle.{Triangle}
 use Rattle.octree_specs.specs.Mesh.{Mesh, fan_of}

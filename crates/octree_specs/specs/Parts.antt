@@ -1,7 +1,6 @@
 -- Parts of a grid: the nodes of one level, the split. A part is filled by itself, from the triangles whose boxes reach it (Baert, Lagae, Dutré 2013: sub-grids that are ranges of Morton codes).
-use Rattle.std.specs.Prelude.{ℕ, zero, suc, ◌+◌, ◌-◌, ◌*◌, ◌/◌, ◌^◌, Bool, true, ◌&&◌, ◌||◌, cond, int_le, ℤ, List, [], ◌∷◌, ◌++◌, filter, length, take, drop, ◌≡◌}
-use Rattle.std.specs.List.{flat_map, sum_by, range_with_len}
-use Rattle.std.specs.Int.{w32, cast_unsigned, to_le_bytes}
+use Rattle.std.specs.Prelude.{ℕ, zero, suc, ◌+◌, ◌-◌, ◌*◌, ◌/◌, ◌^◌, Bool, true, ◌&&◌, ◌||◌, cond, int_le, ℤ, List, filter, ◌≡◌}
+use Rattle.std.specs.List.{sum_by, range_with_len}
 use Rattle.svo_base.specs.GridShape.{GridShape}
 use Rattle.svo_base.specs.declared.shapes.Point.{Point}
 use Rattle.svo_base.specs.declared.shapes.Triangle.{Triangle}

@@ -1,9 +1,6 @@
-use Rattle.std.proofs.Common.{◌≡◌, refl, sym, ap, ◌∙◌, length, map, arith, rules, Some}
-use Rattle.std.proofs.lemmas.List.{at_drop_all}
+use Rattle.std.proofs.Common.{◌≡◌, refl, sym, ap, ◌∙◌, rules}
 use Rattle.std.proofs.lemmas.Slice.Eq.{bytes_eq-Decides}
 use Rattle.std.specs.String.{string_bytes}
-use Rattle.dev_traits.specs.Files.{file_named}
-use Rattle.dev_traits.specs.StoredFiles.{named}
 use Rattle.dev_traits.proofs.StoredFiles.{found_here, found_later, found_none, placed}
 use Rattle.dev_traits.proofs.stored_files.place_of.Goals as goal
 

@@ -1,5 +1,4 @@
 use Rattle.std.proofs.Common.{◌≡◌, ◌∙◌, ◌++◌, ℕ, List, take, ap}
-use Rattle.dev_traits.specs.Streams.{asked_of}
 use Rattle.dev_traits.proofs.Pieces.{front_kept}
 use Rattle.dev_traits.proofs.asking.Asking.new.Goals as goal
 

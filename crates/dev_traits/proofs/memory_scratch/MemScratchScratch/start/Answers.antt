@@ -1,4 +1,4 @@
-use Rattle.std.proofs.Common.{◌≡◌, ℕ, List, take, map, replicate, [], ap, Some, refl, rules}
+use Rattle.std.proofs.Common.{ap, Some, rules}
 use Rattle.std.specs.Vec.{vec_capacity}
 use Rattle.dev_traits.proofs.Rooms.{starts_empty}
 use Rattle.dev_traits.proofs.memory_scratch.MemScratchScratch.start.Goals as goal

@@ -1,4 +1,4 @@
-use Rattle.std.proofs.Common.{◌≡◌, ℕ, ◌+◌, ◌≤◌, length, arith, ap, Some}
+use Rattle.std.proofs.Common.{◌+◌, arith, ap, Some}
 use Rattle.std.proofs.lemmas.List.{drop_all}
 use Rattle.dev_traits.proofs.Pieces.{copied_front}
 use Rattle.dev_traits.proofs.memory_source.MemSourceByteSource.read.Goals as goal
