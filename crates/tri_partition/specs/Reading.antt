@@ -1,10 +1,10 @@
--- What a reader of a part's parcels does.
+-- What a reader of a stream of parcels does.
 use Rattle.std.specs.Prelude.{◌≡◌, ℕ, ◌+◌, ◌≤◌, ◌<◌, List, [], ◌∷◌, length, take, drop, Option, Result, IfOk, MatchOption, MatchResult}
 use Rattle.octree_specs.specs.FacedTriangles.{Faced}
 use Rattle.room_plan.specs.declared.elements.Parcel.{Parcel}
 use Rattle.tri_partition.specs.PartStreams.{faced_of, parcel_from, parcels_in}
 
--- the part that it reads, how many bytes of the part's stream it gave as parcels, and the bytes that it read and did not give yet
+-- the part whose stream it reads, the place of the stream behind the parcels that it gave, and the bytes from there on that it read and did not give yet
 pub record ReaderView : Type 0 where
   pub part : ℕ
   pub place : ℕ

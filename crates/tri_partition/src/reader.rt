@@ -1,6 +1,6 @@
-//! The parcels of a part, read back from its stream.
+//! Parcels read back from a stream.
 
-ghost use Rattle.std.specs.Prelude.{◌≡◌, ◌≢◌, ◌+◌, ◌*◌, ◌^◌, ◌≤◌, ◌<◌, ℕ, [], length, take, drop, IfOk, OnOk, OnErr, IfSome};
+ghost use Rattle.std.specs.Prelude.{◌≡◌, ◌≢◌, ◌+◌, ◌-◌, ◌*◌, ◌^◌, ◌≤◌, ◌<◌, ℕ, [], length, take, drop, IfOk, OnOk, OnErr, IfSome};
 ghost use Rattle.dev_traits.specs.Faults.{HasCause};
 ghost use Rattle.dev_traits.specs.Streams.{stream_of};
 ghost use Rattle.tri_partition.specs.PartStreams.{HasStream, part_stream, faced_of, parcel_from};
@@ -10,13 +10,14 @@ use dev_traits::{Failed, Scratch};
 use room_plan::Parcel;
 use std::marker::Model;
 
-/// Reads the parcels of one part, in the order in which they stand in its stream, through a lent
-/// block. Bytes behind the last whole parcel are left.
+/// Reads the parcels of one stream, in the order in which they stand in it, through a lent block. Bytes
+/// behind the last whole parcel are left. The parcels have the number of the part whose stream it is,
+/// which is one less than the stream's.
 #[derive(Drop)]
 pub struct PartReader<'a> {
     part: u32,
     block: &'a mut [u8],
-    // So many bytes of the stream were given.
+    // Where the next parcel stands in the stream.
     place: u64,
     // The bytes of the block from `from` to `to` were read and not yet given.
     from: usize,
@@ -43,13 +44,41 @@ impl<'a> PartReader<'a> {
         requires { 40 ≤ length block.old }
         ensures { result ≡ record { part = part; place = 0; held = [] } }
     {
+        PartReader::of_part(part, 0, block)
+    }
+
+    /// A reader of a stream from a place on, in bytes. Its first parcel begins there, and what stands
+    /// before is not read. It uses the block as a reader at the start does.
+    ///
+    /// Stream 0 has no parcels, and no call may ask a reader of it for any.
+    pub fn at(stream: u32, from: u64, block: &'a mut [u8]) -> PartReader<'a>
+        requires { 40 ≤ length block.old }
+        ensures { 0 < stream → result ≡ record { part = stream - 1; place = from; held = [] } }
+    {
+        PartReader::of_part(stream.wrapping_sub(1), from, block)
+    }
+
+    /// A reader of the part's stream from a place on.
+    fn of_part(part: u32, from: u64, block: &'a mut [u8]) -> PartReader<'a>
+        requires { 40 ≤ length block.old }
+        ensures { result ≡ record { part = part; place = from; held = [] } }
+    {
         PartReader {
             part,
             block,
-            place: 0,
+            place: from,
             from: 0,
             to: 0,
         }
+    }
+
+    /// Where the next parcel stands in the stream, in bytes: where the reader began, and 40 bytes
+    /// further for each parcel that it gave. A parcel that would end behind the last place of 64 bits is
+    /// not given.
+    pub fn place(&self) -> u64
+        ensures value { result ≡ self.now.place }
+    {
+        self.place
     }
 
     /// How many bytes the part's stream has.
