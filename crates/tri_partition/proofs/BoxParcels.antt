@@ -80,7 +80,7 @@ reaches_is at t grid split axis part =
     rw (some_below (at t.a) (at t.b) (at t.c) high, some_above (at t.a) (at t.b) (at t.c) low)
     (turned (int_le (int_min (int_min (at t.a) (at t.b)) (at t.c)) high) (int_le low (int_max (int_max (at t.a) (at t.b)) (at t.c))))
 
-in_part_is : (grid : GridShape) (split x y z : ℕ) (t : Faced) → x < 2 ^ split → y < 2 ^ split → z < 2 ^ split
+pub in_part_is : (grid : GridShape) (split x y z : ℕ) (t : Faced) → x < 2 ^ split → y < 2 ^ split → z < 2 ^ split
     → is_in_part grid split (code_of split x y z) t
     ≡ (extent_reaches grid split 0 (bounds_of t.triangle).x x && (extent_reaches grid split 1 (bounds_of t.triangle).y y && extent_reaches grid split 2 (bounds_of t.triangle).z z))
 unfolding is_in_part box_meets node_cube bounds_of
@@ -119,76 +119,86 @@ three false true false n = refl
 three false false true n = refl
 three false false false n = refl
 
-module _ (f : Parcel → ℕ) (split : ℕ) (parcel : Parcel) (xs ys zs : PartRange) where
-  row_sum : (z y : ℕ) → xs.to ≤ 2 ^ split → sum_by f (row_parcels split parcel xs z y) ≡ total (λ x. cond (in_range xs x) (f (parcel_to split parcel z y x)) 0) (2 ^ split)
-  row_sum z y within = sum_map f (parcel_to split parcel z y) (parts_in xs) ∙ sum_range (λ x. f (parcel_to split parcel z y x)) xs (2 ^ split) within
+module _ (f : Parcel → ℕ) (levels before : ℕ) (parcel : Parcel) (xs ys zs : PartRange) where
+  row_sum : (z y : ℕ) → xs.to ≤ 2 ^ levels → sum_by f (row_parcels levels before parcel xs z y) ≡ total (λ x. cond (in_range xs x) (f (parcel_to levels before parcel z y x)) 0) (2 ^ levels)
+  row_sum z y within = sum_map f (parcel_to levels before parcel z y) (parts_in xs) ∙ sum_range (λ x. f (parcel_to levels before parcel z y x)) xs (2 ^ levels) within
 
-  layer_sum : (z : ℕ) → xs.to ≤ 2 ^ split → ys.to ≤ 2 ^ split
-      → sum_by f (layer_parcels split parcel xs ys z) ≡ total (λ y. total (λ x. cond (in_range ys y) (cond (in_range xs x) (f (parcel_to split parcel z y x)) 0) 0) (2 ^ split)) (2 ^ split)
+  layer_sum : (z : ℕ) → xs.to ≤ 2 ^ levels → ys.to ≤ 2 ^ levels
+      → sum_by f (layer_parcels levels before parcel xs ys z) ≡ total (λ y. total (λ x. cond (in_range ys y) (cond (in_range xs x) (f (parcel_to levels before parcel z y x)) 0) 0) (2 ^ levels)) (2 ^ levels)
   layer_sum z x_in y_in =
-      let row : ℕ → ℕ → ℕ = λ y x. cond (in_range xs x) (f (parcel_to split parcel z y x)) 0 in
-      sum_flat f (row_parcels split parcel xs z) (parts_in ys)
-      ∙ (sum_range (λ y. sum_by f (row_parcels split parcel xs z y)) ys (2 ^ split) y_in
-      ∙ total_same (λ y. cond (in_range ys y) (sum_by f (row_parcels split parcel xs z y)) 0) (λ y. total (λ x. cond (in_range ys y) (row y x) 0) (2 ^ split)) (2 ^ split)
-      (λ y within. ap (λ n. cond (in_range ys y) n 0) (row_sum z y x_in) ∙ sym (total_cond (in_range ys y) (row y) (2 ^ split))))
+      let row : ℕ → ℕ → ℕ = λ y x. cond (in_range xs x) (f (parcel_to levels before parcel z y x)) 0 in
+      sum_flat f (row_parcels levels before parcel xs z) (parts_in ys)
+      ∙ (sum_range (λ y. sum_by f (row_parcels levels before parcel xs z y)) ys (2 ^ levels) y_in
+      ∙ total_same (λ y. cond (in_range ys y) (sum_by f (row_parcels levels before parcel xs z y)) 0) (λ y. total (λ x. cond (in_range ys y) (row y x) 0) (2 ^ levels)) (2 ^ levels)
+      (λ y within. ap (λ n. cond (in_range ys y) n 0) (row_sum z y x_in) ∙ sym (total_cond (in_range ys y) (row y) (2 ^ levels))))
 
-  box_sum : xs.to ≤ 2 ^ split → ys.to ≤ 2 ^ split → zs.to ≤ 2 ^ split
-      → sum_by f (box_parcels split parcel xs ys zs)
-      ≡ cube_total (λ z y x. cond (in_range zs z) (cond (in_range ys y) (cond (in_range xs x) (f (parcel_to split parcel z y x)) 0) 0) 0) (2 ^ split)
+  box_sum : xs.to ≤ 2 ^ levels → ys.to ≤ 2 ^ levels → zs.to ≤ 2 ^ levels
+      → sum_by f (box_parcels levels before parcel xs ys zs)
+      ≡ cube_total (λ z y x. cond (in_range zs z) (cond (in_range ys y) (cond (in_range xs x) (f (parcel_to levels before parcel z y x)) 0) 0) 0) (2 ^ levels)
   unfolding cube_total
   box_sum x_in y_in z_in =
-      let row : ℕ → ℕ → ℕ → ℕ = λ z y x. cond (in_range ys y) (cond (in_range xs x) (f (parcel_to split parcel z y x)) 0) 0 in
-      sum_flat f (layer_parcels split parcel xs ys) (parts_in zs)
-      ∙ (sum_range (λ z. sum_by f (layer_parcels split parcel xs ys z)) zs (2 ^ split) z_in
-      ∙ total_same (λ z. cond (in_range zs z) (sum_by f (layer_parcels split parcel xs ys z)) 0) (λ z. total (λ y. total (λ x. cond (in_range zs z) (row z y x) 0) (2 ^ split)) (2 ^ split)) (2 ^ split)
+      let row : ℕ → ℕ → ℕ → ℕ = λ z y x. cond (in_range ys y) (cond (in_range xs x) (f (parcel_to levels before parcel z y x)) 0) 0 in
+      sum_flat f (layer_parcels levels before parcel xs ys) (parts_in zs)
+      ∙ (sum_range (λ z. sum_by f (layer_parcels levels before parcel xs ys z)) zs (2 ^ levels) z_in
+      ∙ total_same (λ z. cond (in_range zs z) (sum_by f (layer_parcels levels before parcel xs ys z)) 0) (λ z. total (λ y. total (λ x. cond (in_range zs z) (row z y x) 0) (2 ^ levels)) (2 ^ levels)) (2 ^ levels)
       (λ z within.
       ap (λ n. cond (in_range zs z) n 0) (layer_sum z x_in y_in)
-      ∙ (sym (total_cond (in_range zs z) (λ y. total (row z y) (2 ^ split)) (2 ^ split))
-      ∙ total_same (λ y. cond (in_range zs z) (total (row z y) (2 ^ split)) 0) (λ y. total (λ x. cond (in_range zs z) (row z y x) 0) (2 ^ split)) (2 ^ split)
-      (λ y inside. sym (total_cond (in_range zs z) (row z y) (2 ^ split))))))
+      ∙ (sym (total_cond (in_range zs z) (λ y. total (row z y) (2 ^ levels)) (2 ^ levels))
+      ∙ total_same (λ y. cond (in_range zs z) (total (row z y) (2 ^ levels)) 0) (λ y. total (λ x. cond (in_range zs z) (row z y x) 0) (2 ^ levels)) (2 ^ levels)
+      (λ y inside. sym (total_cond (in_range zs z) (row z y) (2 ^ levels))))))
 
-on_its_way : (split : ℕ) (t : Faced) (z y x : ℕ) → parcel_to split (parcel_of t 0) z y x ≡ parcel_of t (code_of split x y z)
+on_its_way : (levels before number : ℕ) (t : Faced) (z y x : ℕ) → before + code_of levels x y z ≡ number → parcel_to levels before (parcel_of t 0) z y x ≡ parcel_of t number
 unfolding parcel_of
-on_its_way split t z y x = refl
+on_its_way levels before number t z y x is = ap (λ part. record { corners = (parcel_of t 0).corners; face = t.face; part = part }) is
 
-pub box_alike : (grid : GridShape) (split : ℕ) (t : Faced) (parcel : Parcel) (xs ys zs : PartRange) → parcel ≡ parcel_of t 0
+-- the parcels of a box are those of the parts that pass a test, where the ranges say along each axis which do
+pub box_alike : (levels before : ℕ) (t : Faced) (reached : ℕ → Bool) (number : ℕ → ℕ) (parcel : Parcel) (xs ys zs : PartRange) → parcel ≡ parcel_of t 0
+    → ((code : ℕ) → before + code ≡ number code)
+    → xs.to ≤ 2 ^ levels → ys.to ≤ 2 ^ levels → zs.to ≤ 2 ^ levels
+    → ((z y x : ℕ) → z < 2 ^ levels → y < 2 ^ levels → x < 2 ^ levels → reached (code_of levels x y z) ≡ (in_range xs x && (in_range ys y && in_range zs z)))
+    → HoldAlike (box_parcels levels before parcel xs ys zs) (map (λ code. parcel_of t (number code)) (filter reached (range_with_len 0 (8 ^ levels))))
+box_alike levels before t reached number parcel xs ys zs is numbers x_in y_in z_in tests = λ f.
+    let boxed : ℕ → ℕ → ℕ → ℕ = λ z y x. cond (in_range zs z) (cond (in_range ys y) (cond (in_range xs x) (f (parcel_to levels before parcel z y x)) 0) 0) 0 in
+    let counted : ℕ → ℕ = λ code. cond (reached code) (f (parcel_of t (number code))) 0 in
+    box_sum f levels before parcel xs ys zs x_in y_in z_in
+    ∙ (cube_same boxed (λ z y x. counted (code_of levels x y z)) (2 ^ levels) (λ z y x z_at y_at x_at.
+    let same : parcel_to levels before parcel z y x ≡ parcel_of t (number (code_of levels x y z)) = parcel_is z y x in
+    ap (λ p. cond (in_range zs z) (cond (in_range ys y) (cond (in_range xs x) (f p) 0) 0) 0) same
+    ∙ (sym (three (in_range xs x) (in_range ys y) (in_range zs z) (f (parcel_of t (number (code_of levels x y z)))))
+    ∙ ap (λ b. cond b (f (parcel_of t (number (code_of levels x y z)))) 0) (sym (tests z y x z_at y_at x_at))))
+    ∙ (sym (codes_once counted levels)
+    ∙ (sym (sum_filter (λ code. f (parcel_of t (number code))) reached (8 ^ levels))
+    ∙ sym (sum_map f (λ code. parcel_of t (number code)) (filter reached (range_with_len 0 (8 ^ levels)))))))
+  where
+    parcel_is : (z y x : ℕ) → parcel_to levels before parcel z y x ≡ parcel_of t (number (code_of levels x y z))
+    parcel_is z y x = ap (λ p. parcel_to levels before p z y x) is ∙ on_its_way levels before (number (code_of levels x y z)) t z y x (numbers (code_of levels x y z))
+
+-- of the parts of a grid
+first_alike : (grid : GridShape) (split : ℕ) (t : Faced) (parcel : Parcel) (xs ys zs : PartRange) → parcel ≡ parcel_of t 0
     → xs.to ≤ 2 ^ split → ys.to ≤ 2 ^ split → zs.to ≤ 2 ^ split
     → ((part : ℕ) → part < 2 ^ split → in_range xs part ≡ extent_reaches grid split 0 (bounds_of t.triangle).x part)
     → ((part : ℕ) → part < 2 ^ split → in_range ys part ≡ extent_reaches grid split 1 (bounds_of t.triangle).y part)
     → ((part : ℕ) → part < 2 ^ split → in_range zs part ≡ extent_reaches grid split 2 (bounds_of t.triangle).z part)
-    → HoldAlike (box_parcels split parcel xs ys zs) (parcels_of grid split t)
+    → HoldAlike (box_parcels split 0 parcel xs ys zs) (parcels_of grid split t)
 unfolding parcels_of
-box_alike grid split t parcel xs ys zs is x_in y_in z_in x_reached y_reached z_reached = λ f.
-    let reached : ℕ → Bool = λ part. is_in_part grid split part t in
-    let boxed : ℕ → ℕ → ℕ → ℕ = λ z y x. cond (in_range zs z) (cond (in_range ys y) (cond (in_range xs x) (f (parcel_to split parcel z y x)) 0) 0) 0 in
-    let counted : ℕ → ℕ = λ part. cond (reached part) (f (parcel_of t part)) 0 in
-    box_sum f split parcel xs ys zs x_in y_in z_in
-    ∙ (cube_same boxed (λ z y x. counted (code_of split x y z)) (2 ^ split) (λ z y x z_at y_at x_at.
-    let same : parcel_to split parcel z y x ≡ parcel_of t (code_of split x y z) = parcel_is z y x in
-    let tests : reached (code_of split x y z) ≡ (in_range xs x && (in_range ys y && in_range zs z)) =
-    in_part_is grid split x y z t x_at y_at z_at ∙ rw (x_reached x x_at, y_reached y y_at, z_reached z z_at) refl in
-    ap (λ p. cond (in_range zs z) (cond (in_range ys y) (cond (in_range xs x) (f p) 0) 0) 0) same
-    ∙ (sym (three (in_range xs x) (in_range ys y) (in_range zs z) (f (parcel_of t (code_of split x y z))))
-    ∙ ap (λ b. cond b (f (parcel_of t (code_of split x y z))) 0) (sym tests)))
-    ∙ (sym (codes_once counted split)
-    ∙ (sym (sum_filter (λ part. f (parcel_of t part)) reached (8 ^ split))
-    ∙ sym (sum_map f (parcel_of t) (filter reached (range_with_len 0 (8 ^ split)))))))
-  where
-    parcel_is : (z y x : ℕ) → parcel_to split parcel z y x ≡ parcel_of t (code_of split x y z)
-    parcel_is z y x = ap (λ p. parcel_to split p z y x) is ∙ on_its_way split t z y x
+first_alike grid split t parcel xs ys zs is x_in y_in z_in x_reached y_reached z_reached =
+    box_alike split 0 t (λ part. is_in_part grid split part t) (λ part. part) parcel xs ys zs is (λ part. zero-add part) x_in y_in z_in
+    (λ z y x z_at y_at x_at. in_part_is grid split x y z t x_at y_at z_at ∙ rw (x_reached x x_at, y_reached y y_at, z_reached z z_at) refl)
 
--- the same, as code has the box and the grid
-pub all_alike : (inside_grid grid : GridShape) (inside_split split : ℕ) (bounds : Bounds) (t : Faced) (parcel : Parcel) (xs ys zs : PartRange)
-    → inside_grid ≡ grid → inside_split ≡ split → bounds ≡ bounds_of t.triangle → parcel ≡ parcel_of t 0
+-- the same, as code has the box, the grid and the numbers
+pub all_alike : (inside_grid grid : GridShape) (inside_split split levels before : ℕ) (bounds : Bounds) (t : Faced) (parcel : Parcel) (xs ys zs : PartRange)
+    → inside_grid ≡ grid → inside_split ≡ split → levels ≡ inside_split → before ≡ 0 → bounds ≡ bounds_of t.triangle → parcel ≡ parcel_of t 0
     → xs.to ≤ 2 ^ inside_split → ys.to ≤ 2 ^ inside_split → zs.to ≤ 2 ^ inside_split
     → ((part : ℕ) → part < 2 ^ inside_split → in_range xs part ≡ extent_reaches inside_grid inside_split 0 bounds.x part)
     → ((part : ℕ) → part < 2 ^ inside_split → in_range ys part ≡ extent_reaches inside_grid inside_split 1 bounds.y part)
     → ((part : ℕ) → part < 2 ^ inside_split → in_range zs part ≡ extent_reaches inside_grid inside_split 2 bounds.z part)
-    → HoldAlike (box_parcels split parcel xs ys zs) (parcels_of grid split t)
-all_alike inside_grid grid inside_split split bounds t parcel xs ys zs grid_is split_is bounds_is is x_in y_in z_in x_reached y_reached z_reached =
-    subst (λ digits. HoldAlike (box_parcels digits parcel xs ys zs) (parcels_of grid digits t)) split_is
-    (subst (λ shape. HoldAlike (box_parcels inside_split parcel xs ys zs) (parcels_of shape inside_split t)) grid_is
-    (box_alike inside_grid inside_split t parcel xs ys zs is x_in y_in z_in
+    → HoldAlike (box_parcels levels before parcel xs ys zs) (parcels_of grid split t)
+all_alike inside_grid grid inside_split split levels before bounds t parcel xs ys zs grid_is split_is levels_is before_is bounds_is is x_in y_in z_in x_reached y_reached z_reached =
+    subst (λ n. HoldAlike (box_parcels n before parcel xs ys zs) (parcels_of grid split t)) (sym (levels_is ∙ split_is))
+    (subst (λ n. HoldAlike (box_parcels split n parcel xs ys zs) (parcels_of grid split t)) (sym before_is)
+    (subst (λ n. HoldAlike (box_parcels n 0 parcel xs ys zs) (parcels_of grid n t)) split_is
+    (subst (λ shape. HoldAlike (box_parcels inside_split 0 parcel xs ys zs) (parcels_of shape inside_split t)) grid_is
+    (first_alike inside_grid inside_split t parcel xs ys zs is x_in y_in z_in
     (λ part inside. x_reached part inside ∙ ap (λ b. extent_reaches inside_grid inside_split 0 b.x part) bounds_is)
     (λ part inside. y_reached part inside ∙ ap (λ b. extent_reaches inside_grid inside_split 1 b.y part) bounds_is)
-    (λ part inside. z_reached part inside ∙ ap (λ b. extent_reaches inside_grid inside_split 2 b.z part) bounds_is)))
+    (λ part inside. z_reached part inside ∙ ap (λ b. extent_reaches inside_grid inside_split 2 b.z part) bounds_is)))))

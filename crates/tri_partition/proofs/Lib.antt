@@ -8,4 +8,6 @@ pub mod PartSums
 pub mod BoxParcels
 pub mod SpilledParts
 pub mod ReadBack
+pub mod PartsUnder
+pub mod SecondParts
 pub mod Callers

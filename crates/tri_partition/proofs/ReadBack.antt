@@ -7,11 +7,11 @@ use Rattle.std.proofs.lemmas.List.Concat.{flat_map-cons}
 use Rattle.byteorder.specs.Endian.{little_number}
 use Rattle.octree_specs.specs.FacedTriangles.{Faced}
 use Rattle.octree_specs.specs.Parcels.{point_bytes, parcel_bytes, pieces_of, HoldAlike, HoldsParcels}
-use Rattle.octree_specs.specs.Parts.{is_in_part}
+use Rattle.octree_specs.specs.Parts.{is_in_part, part_of}
 use Rattle.room_plan.specs.Coordinates.{point_at, number_at}
 use Rattle.room_plan.proofs.Numbers.{reads_point, point_moved, length_point, reads_number}
 use Rattle.tri_partition.specs.PartStreams.{parcel_from, parcels_in}
-use Rattle.tri_partition.specs.Laws.{GrewByParcels, IsFaced, ReadsBack}
+use Rattle.tri_partition.specs.Laws.{GrewByParcels, IsFaced, ReadsBack, ReadsBehind}
 use Rattle.tri_partition.proofs.BoxParcels.{sum_cons, sum_map}
 use Rattle.tri_partition.proofs.SpilledParts.{sum_ones}
 
@@ -105,4 +105,27 @@ read_back = record {
       ∙ (sum_map f parcel_from (map parcel_bytes grew.stand)
       ∙ (sum_map (λ l. f (parcel_from l)) parcel_bytes grew.stand
       ∙ (grew.alike (λ x. f (again x)) ∙ kept_again (is_in_part grid split part) faced (λ k d within. all k d within) f))));
+}
+
+-- ---- behind what the stream had
+
+bytes_behind : (before after : List ℕ) (parcels : List Faced) → (grew : GrewByParcels before after parcels) → drop (length before) after ≡ flat_map parcel_bytes grew.stand
+bytes_behind before after parcels grew = ap (drop (length before)) grew.bytes ∙ drop_at before (flat_map parcel_bytes grew.stand) (length before) refl
+
+grew_behind : (before after : List ℕ) (parcels : List Faced) → GrewByParcels before after parcels → GrewByParcels [] (drop (length before) after) parcels
+grew_behind before after parcels grew = record {
+  stand = grew.stand;
+  bytes = bytes_behind before after parcels grew;
+  alike = grew.alike;
+}
+
+pub read_behind : ReadsBehind
+read_behind = record {
+  holds = λ before after parcels grew.
+      let behind : drop (length before) after ≡ flat_map parcel_bytes grew.stand = bytes_behind before after parcels grew in
+      (grew.bytes ∙ ap (λ l. before ++ l) (sym behind), holds_parcels (drop (length before) after) parcels (grew_behind before after parcels grew));
+  long = λ before after parcels grew.
+      let many : length grew.stand ≡ length parcels = sym (sum_ones grew.stand) ∙ (grew.alike (λ _. 1) ∙ sum_ones parcels) in
+      omega (arith, ap length grew.bytes, length-append before (flat_map parcel_bytes grew.stand), length_parcels grew.stand, many);
+  reads = λ grid split part before after faced all grew. read_back.reads grid split part (drop (length before) after) faced all (grew_behind before after (part_of grid split part faced) grew);
 }

@@ -1,6 +1,6 @@
 -- Streams that grow by the parcels of parts, a run of one part at a time.
-use Rattle.std.proofs.Common.{◌≡◌, ◌≤◌, ◌<◌, ◌+◌, ◌-◌, ◌^◌, ℕ, zero, suc, List, [], ◌∷◌, ◌++◌, map, length, take, drop, get_or, set, Some, None, refl, arith, sym, ap, subst, ◌∙◌, append-nil}
-use Rattle.std.specs.Prelude.{All, IsPermutation, Option}
+use Rattle.std.proofs.Common.{◌≡◌, ◌≤◌, ◌<◌, ◌+◌, ◌-◌, ◌^◌, ℕ, zero, suc, List, [], ◌∷◌, ◌++◌, map, length, take, drop, get_or, set, Some, None, Result, Ok, Err, refl, arith, sym, ap, subst, ◌∙◌, append-nil}
+use Rattle.std.specs.Prelude.{All, IsPermutation, Option, OnOk}
 use Rattle.std.specs.List.{flat_map, sum_by, range_with_len}
 use Rattle.std.proofs.Math.Seq.{take-add, take-suc-set}
 use Rattle.std.proofs.lemmas.List.{take_at, length-take-le}
@@ -93,10 +93,11 @@ front_is pool sorted used within long = take_at sorted (drop used pool) used (om
 
 -- ---- parcels of a grid's parts
 
-pub have_streams : (split started : ℕ) (parcels : List Parcel) → split ≤ 4 → 8 ^ split < started → All (λ p. p.part < 8 ^ split) parcels → All (λ p. HasStream started p.part) parcels
-have_streams split started parcels few streams inside = λ k none within.
-    let below : (get_or parcels k none).part < 8 ^ split = inside k none within in
-    record { is_started = omega (arith, below, streams); numbered = omega (arith, below, few_parts split few) }
+pub have_streams : (levels before started : ℕ) (parcels : List Parcel) → levels ≤ 4 → before ≤ 8 ^ 4 → before + 8 ^ levels < started → All (λ p. p.part < before + 8 ^ levels) parcels
+    → All (λ p. HasStream started p.part) parcels
+have_streams levels before started parcels few low streams inside = λ k none within.
+    let below : (get_or parcels k none).part < before + 8 ^ levels = inside k none within in
+    record { is_started = omega (arith, below, streams); numbered = omega (arith, below, few_parts levels few, low) }
 
 pub put_in_parts : (pool : List Parcel) (used parts : ℕ) (parcel : Parcel) → used < length pool → All (λ p. p.part < parts) (take used pool) → parcel.part < parts
     → All (λ p. p.part < parts) (take (used + 1) (set pool used parcel))
@@ -116,6 +117,12 @@ spills_alike before after waited more others waits same is = record {
   grew = is.grew;
   alike = λ f. omega (arith, is.alike f, sum_by-append f waited more, sum_by-append f waited others, same f);
 }
+
+pub spills_alike_if_ok : {T E : Type 0} (result : Result T E) (before after : Option (List (List ℕ))) (waiting waited more others waits : List Parcel) → waiting ≡ waited → HoldAlike more others
+    → OnOk result (Spills before after waiting more waits) → OnOk result (Spills before after waited others waits)
+spills_alike_if_ok (Ok value) before after waiting waited more others waits is same spills =
+    subst (λ l. Spills before after l others waits) is (spills_alike before after waiting more others waits same spills)
+spills_alike_if_ok (Err fault) before after waiting waited more others waits is same spills = tt
 
 -- what is put behind those that wait waits
 pub spill_put : (before after : Option (List (List ℕ))) (waited pool : List Parcel) (used : ℕ) (parcel : Parcel) → used < length pool

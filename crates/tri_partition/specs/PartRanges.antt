@@ -1,5 +1,5 @@
 -- Which parts a box reaches along each axis.
-use Rattle.std.specs.Prelude.{ℕ, ◌-◌, ◌*◌, Bool, ◌&&◌, nat_le, nat_lt, ℤ, pos, ◌+ℤ◌, int_le, List, map, slice_index_or}
+use Rattle.std.specs.Prelude.{ℕ, ◌+◌, ◌-◌, ◌*◌, Bool, ◌&&◌, nat_le, nat_lt, ℤ, pos, ◌+ℤ◌, int_le, List, map, slice_index_or}
 use Rattle.std.specs.List.{flat_map, range_with_len}
 use Rattle.svo_base.specs.GridShape.{GridShape}
 use Rattle.octree_specs.specs.NodeCube.{side_of, code_of}
@@ -24,16 +24,16 @@ in_range range part = nat_le range.from part && nat_lt part range.to
 abbrev pub parts_in : PartRange → List ℕ
 parts_in range = range_with_len range.from (range.to - range.from)
 
--- the parcel on its way to the part with these coordinates
-abbrev pub parcel_to : ℕ → Parcel → ℕ → ℕ → ℕ → Parcel
-parcel_to split parcel z y x = record { corners = parcel.corners; face = parcel.face; part = code_of split x y z }
+-- the parcel on its way to the part with these coordinates, so many levels below a node, where so many parts are numbered before those under the node
+abbrev pub parcel_to : ℕ → ℕ → Parcel → ℕ → ℕ → ℕ → Parcel
+parcel_to levels before parcel z y x = record { corners = parcel.corners; face = parcel.face; part = before + code_of levels x y z }
 
 -- on its way to each part of a row, of a layer of rows, and of a box of layers
-abbrev pub row_parcels : ℕ → Parcel → PartRange → ℕ → ℕ → List Parcel
-row_parcels split parcel xs z y = map (parcel_to split parcel z y) (parts_in xs)
+abbrev pub row_parcels : ℕ → ℕ → Parcel → PartRange → ℕ → ℕ → List Parcel
+row_parcels levels before parcel xs z y = map (parcel_to levels before parcel z y) (parts_in xs)
 
-abbrev pub layer_parcels : ℕ → Parcel → PartRange → PartRange → ℕ → List Parcel
-layer_parcels split parcel xs ys z = flat_map (row_parcels split parcel xs z) (parts_in ys)
+abbrev pub layer_parcels : ℕ → ℕ → Parcel → PartRange → PartRange → ℕ → List Parcel
+layer_parcels levels before parcel xs ys z = flat_map (row_parcels levels before parcel xs z) (parts_in ys)
 
-abbrev pub box_parcels : ℕ → Parcel → PartRange → PartRange → PartRange → List Parcel
-box_parcels split parcel xs ys zs = flat_map (layer_parcels split parcel xs ys) (parts_in zs)
+abbrev pub box_parcels : ℕ → ℕ → Parcel → PartRange → PartRange → PartRange → List Parcel
+box_parcels levels before parcel xs ys zs = flat_map (layer_parcels levels before parcel xs ys) (parts_in zs)

@@ -1,5 +1,5 @@
 -- Parcels on their way to the streams of their parts, of which some wait in memory.
-use Rattle.std.specs.Prelude.{◌≡◌, ℕ, ◌+◌, ◌^◌, ◌<◌, List, [], ◌∷◌, ◌++◌, map, filter, All, Option}
+use Rattle.std.specs.Prelude.{◌≡◌, ℕ, ◌+◌, ◌-◌, ◌*◌, ◌^◌, ◌<◌, List, [], ◌∷◌, ◌++◌, map, filter, All, Option}
 use Rattle.std.specs.List.{range_with_len}
 use Rattle.std.specs.Option.{option_map}
 use Rattle.svo_base.specs.GridShape.{GridShape}
@@ -16,6 +16,19 @@ pub record PartitionView : Type 0 where
   pub split : ℕ
   pub waiting : List Parcel
 
+-- the same of the parts of a level below 4 that lie under one node of level 4, which is the first part
+pub record SecondView : Type 0 where
+  pub grid : GridShape
+  pub split : ℕ
+  pub first : ℕ
+  pub waiting : List Parcel
+
+-- the parcels on their way to the parts so many levels below a node, where so many parts are numbered before these
+pub record WaitingView : Type 0 where
+  pub levels : ℕ
+  pub before : ℕ
+  pub waiting : List Parcel
+
 -- ---- the parcels of a triangle
 
 -- a triangle on its way to a part
@@ -30,6 +43,15 @@ parcel_of x part =
 -- one for each part that its box reaches
 unfoldable pub parcels_of : GridShape → ℕ → Faced → List Parcel
 parcels_of grid split x = map (parcel_of x) (filter (λ part. is_in_part grid split part x) (range_with_len 0 (8 ^ split)))
+
+-- the part of a level below 4 that has so many others under the same node of level 4 before it
+abbrev pub part_under : ℕ → ℕ → ℕ → ℕ
+part_under split first place = first * 8 ^ (split - 4) + place
+
+-- one for each part under a node of level 4 that its box reaches; these are numbered behind the parts of level 4, the first under each node alike, so that their streams stand behind those of level 4
+unfoldable pub parcels_under : GridShape → ℕ → ℕ → Faced → List Parcel
+parcels_under grid split first x =
+    map (λ place. parcel_of x (8 ^ 4 + place)) (filter (λ place. is_in_part grid split (part_under split first place) x) (range_with_len 0 (8 ^ (split - 4))))
 
 -- ---- what is appended
 

@@ -1,6 +1,6 @@
 //! Which parts of a grid a triangle's box reaches, along one axis at a time.
 
-ghost use Rattle.std.specs.Prelude.{◌≡◌, ℕ, ◌+◌, ◌*◌, ◌/◌, ◌^◌, ◌<◌, ◌≤◌, min, pos, ℤ, ◌-ℤ◌, ◌+ℤ◌, slice_index_or, unsigned_abs};
+ghost use Rattle.std.specs.Prelude.{◌≡◌, ℕ, ◌+◌, ◌-◌, ◌*◌, ◌/◌, ◌^◌, ◌<◌, ◌≤◌, min, pos, ℤ, ◌-ℤ◌, ◌+ℤ◌, slice_index_or, unsigned_abs};
 ghost use Rattle.std.specs.Int.{int_max};
 ghost use Rattle.octree_specs.specs.NodeCube.{side_of, code_of};
 ghost use Rattle.tri_partition.specs.PartRanges.{extent_reaches, in_range};
@@ -32,6 +32,26 @@ pub fn reached_parts(extent: &Extent, grid: &Grid, split: u32, axis: usize) -> P
     PartRange {
         from: from as u32,
         to: to as u32,
+    }
+}
+
+/// The same of the parts of a level that lie under one node of level 4, by the node's place along the
+/// axis; they are counted from the first of them on.
+pub fn reached_under(extent: &Extent, grid: &Grid, split: u32, axis: usize, node: u32) -> PartRange
+    requires deep { 4 ≤ split }
+    requires split { split ≤ 8 }
+    requires depth { split ≤ grid.now.depth }
+    requires axis { axis < 3 }
+    requires node { node < 2 ^ 4 }
+    ensures reached { (place : ℕ) → place < 2 ^ (split - 4) → in_range result place ≡ extent_reaches grid.now split axis extent.now (node * 2 ^ (split - 4) + place) }
+    ensures to { result.to ≤ 2 ^ (split - 4) }
+{
+    let all = reached_parts(extent, grid, split, axis);
+    let parts = 1 << (split - 4);
+    let first = node * parts;
+    PartRange {
+        from: all.from.saturating_sub(first),
+        to: all.to.saturating_sub(first).min(parts),
     }
 }
 

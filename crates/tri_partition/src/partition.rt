@@ -1,11 +1,11 @@
 //! A partition: triangles on their way to the parts of a grid.
 
-ghost use Rattle.std.specs.Prelude.{◌≡◌, ◌+◌, ◌^◌, ◌<◌, ◌≤◌, [], ◌∷◌, length, OnOk};
+ghost use Rattle.std.specs.Prelude.{◌≡◌, ◌^◌, ◌<◌, ◌≤◌, [], length, OnOk};
 ghost use Rattle.dev_traits.specs.Faults.{HasCause};
-ghost use Rattle.tri_partition.specs.Partitioning.{parcel_of};
 
-use crate::part_ranges::{PartRange, part_at, reached_parts};
-use crate::pool::{put, spill};
+use crate::part_ranges::reached_parts;
+use crate::second::SecondPartition;
+use crate::waiting::{WaitingParcels, parcel_of};
 use dev_traits::{Failed, Scratch};
 use room_plan::Parcel;
 use std::marker::Model;
@@ -20,25 +20,22 @@ use svo_base::{Bounds, Grid, Triangle};
 pub struct Partition<'a> {
     grid: Grid,
     split: u32,
-    pool: &'a mut [Parcel],
-    // So many parcels of the pool wait.
-    used: usize,
+    parcels: WaitingParcels<'a>,
 }
 
 impl<'a> Model for Partition<'a> {
-    ghost use Rattle.std.specs.Prelude.{◌≤◌, ◌<◌, ◌^◌, All, length, take};
+    ghost use Rattle.std.specs.Prelude.{◌≡◌, ◌≤◌};
     ghost use Rattle.tri_partition.specs.Partitioning.{PartitionView};
 
     ghost Value = { PartitionView };
 
-    ghost view = { λ p. record { grid = p.grid; split = p.split; waiting = take p.used p.pool.now } };
+    ghost view = { λ p. record { grid = p.grid; split = p.split; waiting = p.parcels.waiting } };
 
-    ghost invariant = { λ p. (p.split ≤ 4) × (p.split ≤ p.grid.depth) × (0 < length p.pool.now) × (p.used ≤ length p.pool.now) × All (λ parcel. parcel.part < 8 ^ p.split) (take p.used p.pool.now) };
+    ghost invariant = { λ p. (p.split ≤ 4) × (p.split ≤ p.grid.depth) × (p.parcels.levels ≡ p.split) × (p.parcels.before ≡ 0) };
 }
 
 impl<'a> Partition<'a> {
-    ghost use Rattle.tri_partition.specs.Partitioning.{PartitionView, Spills, parcels_of};
-    ghost use Rattle.tri_partition.specs.PartRanges.{row_parcels, layer_parcels};
+    ghost use Rattle.tri_partition.specs.Partitioning.{PartitionView, SecondView, Spills, parcels_of};
 
     /// A partition with no triangles. The split is at most 4 and at most the grid's depth, and the pool
     /// has room for a parcel at least.
@@ -51,9 +48,22 @@ impl<'a> Partition<'a> {
         Partition {
             grid,
             split,
-            pool,
-            used: 0,
+            parcels: WaitingParcels::none(split, 0, pool),
         }
+    }
+
+    /// A partition with no triangles for the parts of a level below 4 that lie under one node of level
+    /// 4, the one with the number `first`. The split is from 5 to 8 and at most the grid's depth, and
+    /// the pool has room for a parcel at least.
+    pub fn second(grid: Grid, split: u32, first: u32, pool: &'a mut [Parcel]) -> SecondPartition<'a>
+        requires deep { 5 ≤ split }
+        requires split { split ≤ 8 }
+        requires depth { split ≤ grid.depth }
+        requires first { first < 8 ^ 4 }
+        requires pool { 0 < length pool.old }
+        ensures { result ≡ record { grid = grid; split = split; first = first; waiting = [] } }
+    {
+        SecondPartition::new(grid, split, first, pool)
     }
 
     /// Assigns a triangle to each part whose closed cube shares a point with the triangle's bounding
@@ -82,79 +92,7 @@ impl<'a> Partition<'a> {
         let ys = reached_parts(&bounds.y, &self.grid, self.split, 1);
         let zs = reached_parts(&bounds.z, &self.grid, self.split, 2);
         let parcel = parcel_of(triangle, face);
-        for z in zs.from..zs.to {
-            self.add_layer(&parcel, &xs, &ys, z, scratch)?;
-        }
-        Ok(())
-    }
-
-    /// Adds a parcel for each part of a layer.
-    fn add_layer<S: Scratch>(
-        &mut self,
-        parcel: &Parcel,
-        xs: &PartRange,
-        ys: &PartRange,
-        z: u32,
-        scratch: &mut S,
-    ) -> Result<(), Failed>
-        requires streams { 8 ^ self.old.split < S.started scratch.old }
-        requires xs { xs.now.to ≤ 2 ^ self.old.split }
-        requires ys { ys.now.to ≤ 2 ^ self.old.split }
-        requires z { z < 2 ^ self.old.split }
-        ensures added { OnOk result (Spills (S.told scratch.old) (S.told scratch.new) self.old.waiting (layer_parcels self.old.split parcel.now xs.now ys.now z) self.new.waiting) }
-        ensures grid { self.new.grid ≡ self.old.grid }
-        ensures split { self.new.split ≡ self.old.split }
-        ensures started { S.started scratch.new ≡ S.started scratch.old }
-        ensures asked { S.asked scratch.new ≡ S.asked scratch.old }
-        ensures cause { HasCause (S.faults scratch.old) (S.faults scratch.new) result }
-    {
-        for y in ys.from..ys.to {
-            self.add_row(parcel, xs, y, z, scratch)?;
-        }
-        Ok(())
-    }
-
-    /// Adds a parcel for each part of a row.
-    fn add_row<S: Scratch>(
-        &mut self,
-        parcel: &Parcel,
-        xs: &PartRange,
-        y: u32,
-        z: u32,
-        scratch: &mut S,
-    ) -> Result<(), Failed>
-        requires streams { 8 ^ self.old.split < S.started scratch.old }
-        requires xs { xs.now.to ≤ 2 ^ self.old.split }
-        requires y { y < 2 ^ self.old.split }
-        requires z { z < 2 ^ self.old.split }
-        ensures added { OnOk result (Spills (S.told scratch.old) (S.told scratch.new) self.old.waiting (row_parcels self.old.split parcel.now xs.now z y) self.new.waiting) }
-        ensures grid { self.new.grid ≡ self.old.grid }
-        ensures split { self.new.split ≡ self.old.split }
-        ensures started { S.started scratch.new ≡ S.started scratch.old }
-        ensures asked { S.asked scratch.new ≡ S.asked scratch.old }
-        ensures cause { HasCause (S.faults scratch.old) (S.faults scratch.new) result }
-    {
-        for x in xs.from..xs.to {
-            let part = part_at(self.split, x, y, z);
-            self.put(&parcel_to(parcel, part), scratch)?;
-        }
-        Ok(())
-    }
-
-    /// Has a parcel wait.
-    fn put<S: Scratch>(&mut self, parcel: &Parcel, scratch: &mut S) -> Result<(), Failed>
-        requires streams { 8 ^ self.old.split < S.started scratch.old }
-        requires part { parcel.now.part < 8 ^ self.old.split }
-        ensures added { OnOk result (Spills (S.told scratch.old) (S.told scratch.new) self.old.waiting (parcel.now ∷ []) self.new.waiting) }
-        ensures grid { self.new.grid ≡ self.old.grid }
-        ensures split { self.new.split ≡ self.old.split }
-        ensures started { S.started scratch.new ≡ S.started scratch.old }
-        ensures asked { S.asked scratch.new ≡ S.asked scratch.old }
-        ensures cause { HasCause (S.faults scratch.old) (S.faults scratch.new) result }
-    {
-        let used = self.used;
-        self.used = put(self.pool, used, parcel, scratch)?;
-        Ok(())
+        self.parcels.add_box(&parcel, &xs, &ys, &zs, scratch)
     }
 
     /// Appends the parcels that wait. Then each part's stream has grown, since the partition was made,
@@ -173,29 +111,6 @@ impl<'a> Partition<'a> {
         ensures asked { S.asked scratch.new ≡ S.asked scratch.old }
         ensures cause { HasCause (S.faults scratch.old) (S.faults scratch.new) result }
     {
-        let used = self.used;
-        spill(self.pool, used, scratch)?;
-        self.used = 0;
-        Ok(())
+        self.parcels.flush(scratch)
     }
-}
-
-/// A triangle as a parcel, of the first part so far.
-#[tactic(auto, unfolding(crate::specs::Partitioning::parcel_of))]
-fn parcel_of(triangle: &Triangle, face: u32) -> Parcel
-    ensures { result ≡ parcel_of (record { triangle = triangle.now; face = face }) 0 }
-{
-    let Triangle { a, b, c } = triangle;
-    Parcel {
-        corners: [a.x, a.y, a.z, b.x, b.y, b.z, c.x, c.y, c.z],
-        face,
-        part: 0,
-    }
-}
-
-/// The parcel, on its way to another part.
-fn parcel_to(parcel: &Parcel, part: u32) -> Parcel
-    ensures { result ≡ record { corners = parcel.now.corners; face = parcel.now.face; part = part } }
-{
-    Parcel { part, ..*parcel }
 }
