@@ -104,8 +104,8 @@ fn build_parts<I: ByteSource, S: Scratch, O: ByteSink, L: Ledger, T: Ledger>(
         input,
         room.block_a.as_mut_slice(),
         room.block_b.as_mut_slice(),
-        room.window.as_mut_slice(),
-        room.pool.as_mut_slice(),
+        &mut room.window,
+        &mut room.pool,
         scratch,
     )?;
     let totals = write_nodes(

@@ -21,7 +21,7 @@ use crate::vertices::spool_points;
 use dev_traits::{ByteSource, Scratch};
 use ply_reader::MeshReader;
 use ply_text::Tokens;
-use room_plan::{Parcel, VertexBlock};
+use room_plan::{Parcel, Reserved, VertexBlock};
 use svo_base::{BoundingBox, Grid};
 use tri_partition::Partition;
 use vertex_spool::Spool;
@@ -33,22 +33,30 @@ pub struct Spilled {
     pub taken: Taken,
 }
 
+/// How many points a block of the window has.
+const BLOCK_POINTS: u64 = 63;
+
+/// So many parcels more than two a face are used of the pool, so that a face that reaches several parts
+/// has room as well.
+const MORE_PARCELS: u64 = 4096;
+
 /// Reads a mesh text whole and puts the mesh on scratch: its vertices in stream 0, and each triangle in
-/// the streams of the parts that its box reaches.
+/// the streams of the parts that its box reaches. Of the window and the pool only as much is used as a
+/// mesh of so many vertices and faces asks for, so that a small one costs little.
 pub fn spill<I: ByteSource, S: Scratch>(
     job: &Job,
     input: &mut I,
     block: &mut [u8],
     points_block: &mut [u8],
-    window: &mut [VertexBlock],
-    pool: &mut [Parcel],
+    window: &mut Reserved<VertexBlock>,
+    pool: &mut Reserved<Parcel>,
     scratch: &mut S,
 ) -> Result<Spilled, SpillFault>
     requires job { IsJob job.now }
     requires block { 2048 ≤ length block.old }
     requires points_block { 12 ≤ length points_block.old }
-    requires window { 0 < length window.old }
-    requires pool { 0 < length pool.old }
+    requires window { 0 < window.old }
+    requires pool { 0 < pool.old }
     requires started { S.started scratch.old ≡ 1 + 8 ^ job.now.plan.split }
     requires empty { AreEmpty (1 + 8 ^ job.now.plan.split) (S.told scratch.old) }
     ensures spills { MatchResult result (SpillsText job.now (I.rest input.old) (I.rest input.new) (S.told scratch.new)) (TellsStop job.now (I.rest input.old) (I.rest input.new)) }
@@ -62,8 +70,21 @@ pub fn spill<I: ByteSource, S: Scratch>(
 {
     let mut tokens = Tokens::new(input, block);
     let mut reader = MeshReader::begin(&mut tokens, job.decimals, job.cut);
-    let mut spool = Spool::new(points_block, window);
+    let blocks = front_size(reader.vertex_count() / BLOCK_POINTS + 1, window.len());
+    let mut spool = Spool::new(points_block, window.front_mut(blocks));
+    let parcels = front_size(2 * reader.face_count() + MORE_PARCELS, pool.len());
+    let pool = pool.front_mut(parcels);
     spill_mesh(job, &mut tokens, &mut reader, &mut spool, pool, scratch)
+}
+
+/// How many items of a buffer are used, where so many would do.
+fn front_size(wanted: u64, room: usize) -> usize
+    requires wanted { 0 < wanted }
+    requires room { 0 < room }
+    ensures some { 0 < result }
+    ensures within { result ≤ room }
+{
+    wanted.min(room as u64) as usize
 }
 
 /// Puts all that a reader has still to give on scratch.

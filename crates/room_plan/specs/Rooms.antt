@@ -7,7 +7,7 @@ use Rattle.room_plan.specs.declared.rooms.Room.{Room}
 pub record HasRoomOf (plan : MemPlan) (room : Room) : Type 0 where
   pub block_a : length room.block_a ≡ 4096
   pub block_b : length room.block_b ≡ 4096
-  pub window : length room.window ≡ plan.window
-  pub pool : length room.pool ≡ plan.pool
+  pub window : room.window ≡ plan.window
+  pub pool : room.pool ≡ plan.pool
   pub queues : length room.queues ≡ 8 * plan.depth
   pub slots : length room.slots ≡ plan.slots

@@ -7,7 +7,7 @@ mod planning;
 mod queues;
 mod rooms;
 
-pub use buffers::Fixed;
+pub use buffers::{Fixed, Reserved};
 pub use elements::{Parcel, VertexBlock};
 pub use planning::{MemPlan, PlanFault, plan};
 pub use queues::{QueueEntry, Queues};

@@ -4,7 +4,7 @@ ghost use Rattle.std.specs.Prelude.{IfOk};
 ghost use Rattle.room_plan.specs.Planning.{IsValid};
 ghost use Rattle.room_plan.specs.Rooms.{HasRoomOf};
 
-use crate::buffers::Fixed;
+use crate::buffers::{Fixed, Reserved};
 use crate::elements::{Parcel, VertexBlock};
 use crate::planning::MemPlan;
 use crate::queues::QueueEntry;
@@ -35,8 +35,8 @@ const NO_ENTRY: QueueEntry = QueueEntry { word: 0, state: 0 };
 pub struct Room {
     pub block_a: Fixed<u8>,
     pub block_b: Fixed<u8>,
-    pub window: Fixed<VertexBlock>,
-    pub pool: Fixed<Parcel>,
+    pub window: Reserved<VertexBlock>,
+    pub pool: Reserved<Parcel>,
     pub queues: Fixed<QueueEntry>,
     pub slots: Fixed<u32>,
 }
@@ -54,8 +54,8 @@ impl Room {
         Ok(Room {
             block_a: Fixed::filled(alloc, 0, BLOCK_SIZE)?,
             block_b: Fixed::filled(alloc, 0, BLOCK_SIZE)?,
-            window: Fixed::filled(alloc, NO_VERTICES, plan.window as usize)?,
-            pool: Fixed::filled(alloc, NO_PARCEL, plan.pool as usize)?,
+            window: Reserved::blank(alloc, NO_VERTICES, plan.window as usize)?,
+            pool: Reserved::blank(alloc, NO_PARCEL, plan.pool as usize)?,
             queues: Fixed::filled(alloc, NO_ENTRY, ENTRIES * plan.depth as usize)?,
             slots: Fixed::filled(alloc, 0, plan.slots as usize)?,
         })
