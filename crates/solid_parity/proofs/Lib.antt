@@ -7,3 +7,7 @@ pub mod Undersides
 pub mod Highest
 mod WorkedSolids
 pub mod Growing
+pub mod Beside
+pub mod Counts
+pub mod BoxColumns
+pub mod PassDown

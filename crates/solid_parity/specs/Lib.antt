@@ -7,3 +7,5 @@ pub mod Seen
 pub mod PartCells
 pub mod Shapes
 pub mod Notes
+pub mod Counts
+pub mod Spans

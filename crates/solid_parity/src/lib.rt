@@ -9,6 +9,8 @@ mod laws;
 mod notes;
 mod prepared;
 mod seen;
+mod settling;
+mod spans;
 
 pub use columns::PartColumns;
 pub use laws::{parity_agrees_from_below, solid_cells_grow_one_by_one};
