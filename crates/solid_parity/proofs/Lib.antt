@@ -11,3 +11,5 @@ pub mod Beside
 pub mod Counts
 pub mod BoxColumns
 pub mod PassDown
+pub mod Overs
+pub mod TakenNotes

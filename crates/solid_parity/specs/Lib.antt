@@ -9,3 +9,4 @@ pub mod Shapes
 pub mod Notes
 pub mod Counts
 pub mod Spans
+pub mod SolidParts

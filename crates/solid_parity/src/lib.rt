@@ -4,6 +4,7 @@
 #![tactic(auto)]
 
 mod columns;
+mod filling;
 mod heights;
 mod laws;
 mod notes;
@@ -13,6 +14,7 @@ mod settling;
 mod spans;
 
 pub use columns::PartColumns;
+pub use filling::{fill_solid_part, fill_solid_slots};
 pub use laws::{parity_agrees_from_below, solid_cells_grow_one_by_one};
 pub use notes::note_column;
 pub use prepared::Shape;
