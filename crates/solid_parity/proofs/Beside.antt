@@ -14,7 +14,7 @@ use Rattle.solid_parity.specs.Parity.{doubled, rises, crosses, crossings, is_cov
 
 -- ---- one edge
 
-turned_product : (a b : ℤ) → a *ℤ b ≡ b *ℤ a
+pub turned_product : (a b : ℤ) → a *ℤ b ≡ b *ℤ a
 turned_product a b = same (times (the a) (the b)) (times (the b) (the a)) (omega arith)
 
 -- on the way up to an edge's upper end: `up` of `whole`, with q so far `across` and the edge's ends so far apart
@@ -30,16 +30,19 @@ not_left whole up across apart p q r s =
     let rest : pos 0 ≤ℤ ((whole -ℤ up) *ℤ across) = product_not_negative (whole -ℤ up) across (omega (arith, ints, q)) r in
     omega (arith, ints, less, rest, -ℤ-*ℤ whole up across, turned_product up apart)
 
-test_less : (m n : ℤ) → m <ℤ n → int_lt m n ≡ true
+pub test_less : (m n : ℤ) → m <ℤ n → int_lt m n ≡ true
 test_less m n h = grind (arith, ints)
 
-test_not : (m n : ℤ) → n ≤ℤ m → int_lt m n ≡ false
+pub test_not : (m n : ℤ) → n ≤ℤ m → int_lt m n ≡ false
 test_not m n h = grind (arith, ints)
 
-less_of : (m n : ℤ) → int_le m n ≡ false → n <ℤ m
+pub test_most : (m n : ℤ) → m ≤ℤ n → int_le m n ≡ true
+test_most m n h = grind (arith, ints)
+
+pub less_of : (m n : ℤ) → int_le m n ≡ false → n <ℤ m
 less_of m n h = omega (arith, ints, h)
 
-most_of : (m n : ℤ) → int_le m n ≡ true → m ≤ℤ n
+pub most_of : (m n : ℤ) → int_le m n ≡ true → m ≤ℤ n
 most_of m n h = omega (arith, ints, h)
 
 -- where q is on the left of both ends, an edge goes up past its height exactly where one end is not above it and the other is
@@ -83,14 +86,14 @@ rises_above u v q p r = elim (cases_Bool (int_le u.y q.y)) [
   | inr above ↦ rw above refl
 ]
 
-crosses_above : (u v q : Vector) → u.y ≤ℤ q.y → v.y ≤ℤ q.y → crosses u v q ≡ false
+pub crosses_above : (u v q : Vector) → u.y ≤ℤ q.y → v.y ≤ℤ q.y → crosses u v q ≡ false
 unfolding crosses
 crosses_above u v q p r = rw (rises_above u v q p r, rises_above v u q r p) refl
 
-test_above : (m n : ℤ) → n <ℤ m → int_le m n ≡ false
+pub test_above : (m n : ℤ) → n <ℤ m → int_le m n ≡ false
 test_above m n h = grind (arith, ints)
 
-crosses_below : (u v q : Vector) → q.y <ℤ u.y → q.y <ℤ v.y → crosses u v q ≡ false
+pub crosses_below : (u v q : Vector) → q.y <ℤ u.y → q.y <ℤ v.y → crosses u v q ≡ false
 unfolding crosses
 crosses_below u v q p r = rw (test_above u.y q.y p, test_above v.y q.y r) refl
 

@@ -13,3 +13,5 @@ pub mod BoxColumns
 pub mod PassDown
 pub mod Overs
 pub mod TakenNotes
+pub mod Weights
+pub mod NeededParts

@@ -100,7 +100,7 @@ sums_up p faced x y lx ly z lz =
 -- ---- cells by their codes
 
 -- the centre of a part's cell, by its code and by its places in the part
-centre_is : (grid : GridShape) (split part place : ℕ) → split ≤ grid.depth → place < 8 ^ (grid.depth - split)
+pub centre_is : (grid : GridShape) (split part place : ℕ) → split ≤ grid.depth → place < 8 ^ (grid.depth - split)
     → centre_of grid (first_of_part grid split part + place) ≡ centre_in grid split part (coordinate_of 0 (grid.depth - split) place) (coordinate_of 1 (grid.depth - split) place) (coordinate_of 2 (grid.depth - split) place)
 unfolding centre_of centre_in
 centre_is grid split part place shallow inside = vector_same _ _ _ _ _ _ (along 0 (omega arith)) (along 1 (omega arith)) (along 2 (omega arith))

@@ -10,3 +10,4 @@ pub mod Notes
 pub mod Counts
 pub mod Spans
 pub mod SolidParts
+pub mod PartLaws
