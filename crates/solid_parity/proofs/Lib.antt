@@ -15,3 +15,4 @@ pub mod Overs
 pub mod TakenNotes
 pub mod Weights
 pub mod NeededParts
+pub mod ColumnBoxes

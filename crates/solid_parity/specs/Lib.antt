@@ -11,3 +11,4 @@ pub mod Counts
 pub mod Spans
 pub mod SolidParts
 pub mod PartLaws
+pub mod ColumnParts

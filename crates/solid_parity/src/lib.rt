@@ -8,6 +8,8 @@ mod filling;
 mod heights;
 mod laws;
 mod notes;
+mod part_boxes;
+mod planning;
 mod prepared;
 mod seen;
 mod settling;
@@ -19,4 +21,6 @@ pub use laws::{
     parity_agrees_from_below, parts_need_their_columns, solid_cells_grow_one_by_one,
 };
 pub use notes::note_column;
+pub use part_boxes::{PartBox, column_parts};
+pub use planning::solid_plan;
 pub use prepared::Shape;
