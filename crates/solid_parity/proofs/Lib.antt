@@ -16,3 +16,4 @@ pub mod TakenNotes
 pub mod Weights
 pub mod NeededParts
 pub mod ColumnBoxes
+pub mod NarrowPlans

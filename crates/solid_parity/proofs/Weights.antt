@@ -184,7 +184,7 @@ IsOdd a b c q = ((one (crosses a b q) + one (crosses b c q) + one (crosses c a q
 weighed_y : (a b c q : Vector) → first_of a b c q *ℤ (q.y -ℤ a.y) ≡ (second_of a b c q *ℤ (b.y -ℤ q.y)) +ℤ (third_of a b c q *ℤ (c.y -ℤ q.y))
 weighed_y a b c q =
     let spread = spread_weights (whole_weight (b.x -ℤ a.x) (b.y -ℤ a.y) (c.x -ℤ a.x) (c.y -ℤ a.y)) (second_of a b c q) (third_of a b c q) (q.y -ℤ a.y) (b.y -ℤ a.y) (c.y -ℤ a.y)
-        (whole_along (b.x -ℤ a.x) (b.y -ℤ a.y) (c.x -ℤ a.x) (c.y -ℤ a.y) (q.x -ℤ a.x) (q.y -ℤ a.y)) in
+    (whole_along (b.x -ℤ a.x) (b.y -ℤ a.y) (c.x -ℤ a.x) (c.y -ℤ a.y) (q.x -ℤ a.x) (q.y -ℤ a.y)) in
     let to_b : (b.y -ℤ a.y) -ℤ (q.y -ℤ a.y) ≡ b.y -ℤ q.y = omega (arith, ints) in
     let to_c : (c.y -ℤ a.y) -ℤ (q.y -ℤ a.y) ≡ c.y -ℤ q.y = omega (arith, ints) in
     spread ∙ rw (to_b, to_c) refl

@@ -17,9 +17,7 @@ mod spans;
 
 pub use columns::PartColumns;
 pub use filling::{fill_solid_part, fill_solid_slots};
-pub use laws::{
-    parity_agrees_from_below, parts_need_their_columns, solid_cells_grow_one_by_one,
-};
+pub use laws::{parity_agrees_from_below, parts_need_their_columns, solid_cells_grow_one_by_one};
 pub use notes::note_column;
 pub use part_boxes::{PartBox, column_parts};
 pub use planning::solid_plan;

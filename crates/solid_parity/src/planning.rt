@@ -1,11 +1,10 @@
 //! The memory of a build of solid cells.
 
-ghost use Rattle.std.specs.Prelude.{◌≡◌, ◌≤◌, ◌^◌, ◌≤ℤ◌, ◌<ℤ◌, ◌↔◌, pos, Err, IfOk};
+ghost use Rattle.std.specs.Prelude.{◌≡◌, ◌≤◌, ◌-◌, ◌^◌, ◌≤ℤ◌, ◌<ℤ◌, ◌↔◌, pos, Err, IfOk};
 ghost use Rattle.svo_base.specs.declared.grids.TheConstants.{MAX_DEPTH};
 ghost use Rattle.octree_specs.specs.MemoryPlan.{least_memory, plan_need};
 ghost use Rattle.room_plan.specs.Planning.{plan_from, plan_with, IsValid};
 ghost use Rattle.room_plan.specs.declared.planning.PlanFault.{PlanFault};
-ghost use Rattle.solid_parity.specs.PartCells.{part_side};
 
 use room_plan::{MemPlan, PlanFault, plan};
 
@@ -24,6 +23,7 @@ pub fn solid_plan(depth: u32, limit: i64) -> Result<MemPlan, PlanFault>
     ensures small { (result ≡ Err (PlanFault.TooSmall (least_memory depth))) ↔ (limit <ℤ pos (least_memory depth)) }
     ensures need { IfOk result (λ plan. pos (plan_need (plan_with plan)) ≤ℤ limit) }
     ensures valid { IfOk result IsValid }
+    ensures narrow { IfOk result (λ plan. 2 ^ (plan.depth - plan.split) ≤ 512) }
 {
     plan(depth, limit)
 }

@@ -13,12 +13,7 @@ use morton_code::encode;
 
 /// Makes each slot of a marked column as odd as what was noted in it and in those above it. Columns
 /// without a mark have no notes.
-pub fn settle(
-    columns: &PartColumns,
-    slots: &mut [u32],
-    blocks: &mut TouchedBlocks,
-    marks: &[u64],
-)
+pub fn settle(columns: &PartColumns, slots: &mut [u32], blocks: &mut TouchedBlocks, marks: &[u64])
     requires kept { AreKept columns.now slots.old blocks.old marks.now }
     ensures settled { IsSettled (part_side columns.now.grid columns.now.split) slots.old slots.new }
     ensures touched { AreTouched slots.new blocks.new }
@@ -57,12 +52,7 @@ fn settle_column(
 }
 
 /// Turns a slot where what stands above it is odd, and answers whether it is odd with that.
-fn settle_cell(
-    slots: &mut [u32],
-    blocks: &mut TouchedBlocks,
-    place: u64,
-    is_odd: bool,
-) -> bool
+fn settle_cell(slots: &mut [u32], blocks: &mut TouchedBlocks, place: u64, is_odd: bool) -> bool
     requires place { place < length slots.old }
     requires touched { AreTouched slots.old blocks.old }
     ensures this { slice_index slots.new place ≡ cond is_odd (turned_slot (slice_index slots.old place)) (slice_index slots.old place) }

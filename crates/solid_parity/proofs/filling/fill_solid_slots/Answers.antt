@@ -1,7 +1,4 @@
-use Rattle.std.proofs.Common.{◌≡◌, ◌∙◌, refl, sym, subst}
-use Rattle.solid_parity.specs.Counts.{AddsCounts, IsSettled, noted_of}
-use Rattle.solid_parity.specs.PartCells.{Part, part_side}
-use Rattle.solid_parity.specs.SolidParts.{TakesNotes}
+use Rattle.std.proofs.Common.{refl}
 use Rattle.solid_parity.proofs.TakenNotes.{kept_empty, parities_taken}
 use Rattle.solid_parity.proofs.filling.fill_solid_slots.Goals as goal
 

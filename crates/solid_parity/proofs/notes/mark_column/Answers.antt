@@ -1,4 +1,4 @@
-use Rattle.std.proofs.Common.{◌+◌, ◌*◌, arith}
+use Rattle.std.proofs.Common.{arith}
 use Rattle.solid_parity.proofs.Counts.{kept_marked}
 use Rattle.solid_parity.proofs.notes.mark_column.Goals as goal
 

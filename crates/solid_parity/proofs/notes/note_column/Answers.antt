@@ -1,4 +1,4 @@
-use Rattle.std.proofs.Common.{◌-◌, ◌+◌, ◌<◌, arith}
+use Rattle.std.proofs.Common.{◌-◌, ◌<◌, arith}
 use Rattle.solid_parity.proofs.Counts.{none_counted, one_counted, others_stay}
 use Rattle.solid_parity.proofs.Highest.{none_noted, one_noted, place_within}
 use Rattle.solid_parity.proofs.notes.note_column.Goals as goal

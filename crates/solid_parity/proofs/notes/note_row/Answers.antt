@@ -1,4 +1,4 @@
-use Rattle.std.proofs.Common.{◌+◌, ◌-◌, ◌≤◌, arith}
+use Rattle.std.proofs.Common.{arith}
 use Rattle.solid_parity.proofs.Counts.{row_none, row_next, row_all}
 use Rattle.solid_parity.proofs.notes.note_row.Goals as goal
 

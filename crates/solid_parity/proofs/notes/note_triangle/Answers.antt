@@ -1,4 +1,4 @@
-use Rattle.std.proofs.Common.{◌+◌, ◌-◌, ◌≤◌, ◌≡◌, arith, subst, sym}
+use Rattle.std.proofs.Common.{arith, subst, sym}
 use Rattle.solid_parity.specs.Spans.{AreAcross}
 use Rattle.solid_parity.proofs.BoxColumns.{across_from, row_before, row_behind}
 use Rattle.solid_parity.proofs.Counts.{rows_none, rows_next, rows_all}

@@ -1,5 +1,5 @@
 -- The triangle was noted in the rows before this one.
-use Rattle.std.proofs.Common.{◌≡◌, ◌-◌, ◌≤◌}
+use Rattle.std.proofs.Common.{◌-◌, ◌≤◌}
 use Rattle.std.specs.Prelude.{◌&&◌, nat_lt}
 use Rattle.solid_parity.specs.Counts.{AddsCounts, AreKept}
 use Rattle.solid_parity.specs.Notes.{is_highest}

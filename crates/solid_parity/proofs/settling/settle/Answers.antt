@@ -1,4 +1,4 @@
-use Rattle.std.proofs.Common.{◌+◌, ◌/◌, ◌%◌, ◌^◌, ◌≤◌, arith}
+use Rattle.std.proofs.Common.{arith}
 use Rattle.solid_parity.proofs.PassDown.{column_settled, all_settled}
 use Rattle.solid_parity.proofs.settling.settle.Goals as goal
 

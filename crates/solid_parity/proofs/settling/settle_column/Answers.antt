@@ -1,4 +1,4 @@
-use Rattle.std.proofs.Common.{◌≡◌, ◌+◌, ◌-◌, ◌^◌, ◌≤◌, arith}
+use Rattle.std.proofs.Common.{◌-◌, arith}
 use Rattle.solid_parity.proofs.Highest.{place_within}
 use Rattle.solid_parity.proofs.PassDown.{settled_cell, at_bottom}
 use Rattle.solid_parity.proofs.settling.settle_column.Goals as goal

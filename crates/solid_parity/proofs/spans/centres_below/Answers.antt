@@ -1,4 +1,4 @@
-use Rattle.std.proofs.Common.{◌≡◌, ◌+◌, ◌-◌, ◌/◌, min, arith}
+use Rattle.std.proofs.Common.{arith}
 use Rattle.solid_parity.proofs.BoxColumns.{centre_before, centre_behind}
 use Rattle.solid_parity.proofs.spans.centres_below.Goals as goal
 
