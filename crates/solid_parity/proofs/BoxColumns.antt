@@ -1,6 +1,5 @@
 -- Which centres of a row of cells lie in a stretch of its axis, and which columns a triangle is beside.
-use Rattle.std.proofs.Common.{◌≡◌, ℕ, ◌+◌, ◌-◌, ◌*◌, ◌/◌, ◌<◌, ◌≤◌, Bool, true, false, min, ℤ, pos, ◌+ℤ◌, ◌-ℤ◌, ◌*ℤ◌, ◌≤ℤ◌, ◌<ℤ◌, unsigned_abs, inl, inr, arith, refl, sym, ap, subst, ◌∙◌}
-use Rattle.std.specs.Prelude.{◌&&◌, not}
+use Rattle.std.proofs.Common.{◌≡◌, ℕ, ◌+◌, ◌-◌, ◌*◌, ◌/◌, ◌<◌, ◌≤◌, false, min, ℤ, pos, ◌+ℤ◌, ◌-ℤ◌, ◌*ℤ◌, ◌≤ℤ◌, ◌<ℤ◌, unsigned_abs, inl, inr, arith, refl, subst}
 use Rattle.std.specs.Int.{int_max}
 use Rattle.std.proofs.Math.Nat.{div-lt_iff_lt-mul}
 use Rattle.std.proofs.lemmas.Bool.{cases_lt}
@@ -9,12 +8,10 @@ use Rattle.svo_base.specs.Boxes.{bounds_of}
 use Rattle.svo_base.specs.declared.boxes.Bounds.{Bounds}
 use Rattle.svo_base.specs.declared.boxes.Extent.{Extent}
 use Rattle.svo_base.specs.declared.shapes.Triangle.{Triangle}
-use Rattle.svo_base.specs.declared.shapes.Vector.{Vector}
 use Rattle.tri_partition.specs.declared.part_ranges.PartRange.{PartRange}
-use Rattle.octree_specs.specs.Vectors.{vector}
 use Rattle.solid_parity.specs.Notes.{is_highest}
 use Rattle.solid_parity.specs.Parity.{centre_at, is_covered}
-use Rattle.solid_parity.specs.PartCells.{Part, part_side, first_along, centre_in, is_over_in, HasCentres}
+use Rattle.solid_parity.specs.PartCells.{Part, part_side, first_along, centre_in, is_over_in}
 use Rattle.solid_parity.specs.Spans.{AreReached, AreAcross}
 use Rattle.solid_parity.proofs.Beside.{left_of_box, right_of_box, before_box, behind_box}
 use Rattle.solid_parity.proofs.Undersides.{further_centre}

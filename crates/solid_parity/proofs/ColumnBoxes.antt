@@ -1,24 +1,23 @@
 -- The parts that need a triangle are those of a box of parts.
-use Rattle.std.proofs.Common.{◌≡◌, ℕ, ◌*◌, ◌^◌, ◌<◌, ◌≤◌, Bool, true, false, ℤ, pos, ◌+ℤ◌, ◌≤ℤ◌, ◌<ℤ◌, arith, refl, sym, ap, ◌∙◌}
-use Rattle.std.specs.Prelude.{◌&&◌, ◌||◌, int_le, slice_index_or}
+use Rattle.std.proofs.Common.{◌≡◌, ℕ, ◌^◌, ◌<◌, ◌≤◌, Bool, true, false, ℤ, pos, ◌+ℤ◌, ◌<ℤ◌, arith, refl, sym, ap, ◌∙◌}
+use Rattle.std.specs.Prelude.{◌&&◌, ◌||◌, int_le}
 use Rattle.std.specs.Int.{int_min, int_max}
 use Rattle.std.proofs.Math.Bool.{and_comm}
-use Rattle.std.proofs.lemmas.Bool.{or_parts, and_right}
+use Rattle.std.proofs.lemmas.Bool.{or_parts}
 use Rattle.std.proofs.lemmas.Int.{ints, clamps}
 use Rattle.svo_base.specs.Boxes.{bounds_of, extent_of}
 use Rattle.svo_base.specs.GridShape.{GridShape}
 use Rattle.svo_base.specs.declared.boxes.Bounds.{Bounds}
-use Rattle.svo_base.specs.declared.boxes.Extent.{Extent}
 use Rattle.svo_base.specs.declared.shapes.Point.{Point}
 use Rattle.svo_base.specs.declared.shapes.Triangle.{Triangle}
 use Rattle.morton_code.proofs.Coordinates.{coordinate_below}
 use Rattle.octree_specs.specs.NodeCube.{coordinate_of, node_cube, side_of}
 use Rattle.octree_specs.specs.Parts.{reaches}
 use Rattle.tri_partition.specs.PartRanges.{extent_reaches, in_range, plane_of}
-use Rattle.solid_parity.specs.ColumnParts.{AreColumnParts, is_in_box}
+use Rattle.solid_parity.specs.ColumnParts.{AreColumnParts}
 use Rattle.solid_parity.specs.Columns.{column_meets, is_not_below}
 use Rattle.solid_parity.specs.declared.part_boxes.PartBox.{PartBox}
-use Rattle.solid_parity.proofs.Beside.{less_of, test_above, test_most}
+use Rattle.solid_parity.proofs.Beside.{less_of, test_above}
 
 same_if_false : (p q : Bool) → (p ≡ false → q ≡ false) → (q ≡ false → p ≡ false) → p ≡ q
 same_if_false true true there back = refl
@@ -68,18 +67,6 @@ column_meets_is grid split part t =
       greatest_of t.a.z t.b.z t.c.z (plane_of grid split 2 (coordinate_of 2 split part)),
     ) refl
 
--- from the grid's lowest plane on, each part is reached that is not above
-pub from_lowest : (grid : GridShape) (split place : ℕ) (low high : ℤ) → low ≡ slice_index_or grid.origin 2 (pos 0)
-    → (int_le (plane_of grid split 2 place) high && int_le low (plane_of grid split 2 place +ℤ pos (side_of grid split))) ≡ int_le (plane_of grid split 2 place) high
-from_lowest grid split place low high is = rw (test_most low (plane_of grid split 2 place +ℤ pos (side_of grid split)) (above (slice_index_or grid.origin 2 (pos 0)) (side_of grid split * place) (side_of grid split) is)) (and_true (int_le (plane_of grid split 2 place) high))
-  where
-    and_true : (b : Bool) → (b && true) ≡ b
-    and_true true = refl
-    and_true false = refl
-
-    above : (o : ℤ) (far side : ℕ) → low ≡ o → low ≤ℤ ((o +ℤ pos far) +ℤ pos side)
-    above o far side e = omega (arith, ints, e)
-
 pub column_parts_are : (grid : GridShape) (split : ℕ) (t : Triangle) (bounds : Bounds) (parts : PartBox) → bounds ≡ bounds_of t
     → parts.x.to ≤ 2 ^ split → parts.y.to ≤ 2 ^ split → parts.z.to ≤ 2 ^ split
     → ((place : ℕ) → place < 2 ^ split → in_range parts.x place ≡ extent_reaches grid split 0 bounds.x place)
@@ -91,7 +78,6 @@ column_parts_are grid split t bounds parts is lx ly lz x_is y_is z_is = record {
   y_within = ly;
   z_within = lz;
   needed = λ part within.
-      let x = coordinate_of 0 split part in
       rw (x_is (coordinate_of 0 split part) (coordinate_below 0 split part), y_is (coordinate_of 1 split part) (coordinate_below 1 split part), z_is (coordinate_of 2 split part) (coordinate_below 2 split part))
       (ap (λ b. extent_reaches grid split 0 b.x (coordinate_of 0 split part) && (extent_reaches grid split 1 b.y (coordinate_of 1 split part) && int_le (plane_of grid split 2 (coordinate_of 2 split part)) b.z.high)) is
       ∙ sym (column_meets_is grid split part t));

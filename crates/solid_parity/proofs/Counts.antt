@@ -1,6 +1,6 @@
 -- Slots as odd as the numbers that were counted.
-use Rattle.std.proofs.Common.{◌≡◌, ℕ, ◌+◌, ◌*◌, ◌/◌, ◌%◌, ◌^◌, ◌<◌, ◌≤◌, ◌-◌, Bool, true, false, List, length, get_or, set, get_or-set_same, get_or-set_other, inl, inr, arith, refl, sym, ap, subst, ◌∙◌, lit<}
-use Rattle.std.specs.Prelude.{◌⊎◌, ◌≢◌, ◌==◌, ◌&&◌, cond, nat_lt}
+use Rattle.std.proofs.Common.{◌≡◌, ℕ, ◌+◌, ◌*◌, ◌%◌, ◌^◌, ◌<◌, ◌≤◌, ◌-◌, Bool, true, false, List, length, get_or, set, get_or-set_same, get_or-set_other, inl, inr, arith, refl, sym, ap, subst, ◌∙◌, lit<}
+use Rattle.std.specs.Prelude.{◌≢◌, ◌==◌, ◌&&◌, cond, nat_lt}
 use Rattle.std.proofs.Math.Nat.{pow-le-pow_right}
 use Rattle.std.proofs.lemmas.Bool.{cases_Bool, cases_eq, cases_lt, lt-ltb, ltb-true, eq-eqb, ne_eqb, and_right}
 use Rattle.std.proofs.lemmas.Bool.Decides.{nat_tests}
@@ -9,10 +9,10 @@ use Rattle.bit_grid.specs.Slots.{turned_slot}
 use Rattle.bit_grid.specs.Touched.{AreTouched}
 use Rattle.bit_grid.specs.declared.touched.TouchedBlocks.{TouchedBlocks}
 use Rattle.tri_partition.specs.declared.part_ranges.PartRange.{PartRange}
-use Rattle.octree_specs.specs.NodeCube.{code_of, coordinate_of}
+use Rattle.octree_specs.specs.NodeCube.{coordinate_of}
 use Rattle.morton_code.proofs.Coordinates.{x_of_code, y_of_code, z_of_code}
 use Rattle.svo_base.specs.declared.shapes.Triangle.{Triangle}
-use Rattle.solid_parity.specs.Counts.{HasCounts, AddsCounts, AreKept, AreMarked, OthersStay, mark_of, notes, row_notes, column_notes}
+use Rattle.solid_parity.specs.Counts.{AddsCounts, AreKept, OthersStay, mark_of, notes, row_notes, column_notes}
 use Rattle.solid_parity.specs.Notes.{is_highest, place_in}
 use Rattle.solid_parity.specs.Parity.{one}
 use Rattle.solid_parity.specs.PartCells.{Part, part_side}

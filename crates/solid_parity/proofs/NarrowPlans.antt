@@ -1,5 +1,5 @@
 -- A plan's parts have at most 512 cells along an axis, since slots take at most 2^31 bytes.
-use Rattle.std.proofs.Common.{◌≡◌, ℕ, ◌+◌, ◌-◌, ◌*◌, ◌^◌, ◌≤◌, ◌<◌, Bool, true, false, ℤ, pos, negsuc, Option, None, Some, Result, Ok, Err, inl, inr, refl, sym, subst, arith, lit<}
+use Rattle.std.proofs.Common.{◌≡◌, ℕ, ◌-◌, ◌*◌, ◌^◌, ◌≤◌, Bool, true, false, ℤ, pos, negsuc, Option, None, Some, Result, Ok, Err, inl, inr, refl, sym, subst, arith, lit<}
 use Rattle.std.specs.Prelude.{int_lt, IfOk}
 use Rattle.std.specs.Option.{option_map}
 use Rattle.std.proofs.Math.Nat.{pow-le-pow_right}

@@ -1,18 +1,16 @@
 -- A triangle that is over a cell is one that the cell's part needs.
-use Rattle.std.proofs.Common.{◌≡◌, ℕ, ◌+◌, ◌-◌, ◌*◌, ◌%◌, ◌^◌, ◌<◌, ◌≤◌, Bool, true, false, List, [], ◌∷◌, filter, ℤ, pos, ◌+ℤ◌, ◌-ℤ◌, ◌*ℤ◌, ◌≤ℤ◌, ◌<ℤ◌, inl, inr, arith, refl, sym, ap, subst, ◌∙◌, mul-le-mul_left}
-use Rattle.std.specs.Prelude.{◌&&◌, ◌||◌, int_le, cond}
-use Rattle.std.specs.List.{sum_by, slice_index_or}
+use Rattle.std.proofs.Common.{◌≡◌, ℕ, ◌+◌, ◌-◌, ◌*◌, ◌%◌, ◌^◌, ◌<◌, ◌≤◌, Bool, true, false, List, [], ◌∷◌, filter, ℤ, pos, ◌+ℤ◌, ◌*ℤ◌, ◌≤ℤ◌, ◌<ℤ◌, inl, inr, arith, refl, sym, ap, ◌∙◌, mul-le-mul_left}
+use Rattle.std.specs.Prelude.{◌||◌, int_le}
+use Rattle.std.specs.List.{slice_index_or}
 use Rattle.std.proofs.lemmas.Bool.{cases_Bool, or_parts, true_from_ne_false, and_from}
 use Rattle.std.proofs.lemmas.Int.{ints}
 use Rattle.svo_base.specs.GridShape.{GridShape}
 use Rattle.svo_base.specs.declared.shapes.Triangle.{Triangle}
 use Rattle.svo_base.specs.declared.shapes.Vector.{Vector}
-use Rattle.svo_base.specs.declared.shapes.Cube.{Cube}
 use Rattle.svo_base.specs.declared.shapes.Point.{Point}
 use Rattle.morton_code.proofs.Coordinates.{coordinate_below}
 use Rattle.morton_scan.specs.Putting.{first_of_part}
 use Rattle.octree_specs.specs.FacedTriangles.{Faced}
-use Rattle.octree_specs.specs.Meeting.{low_of, high_of}
 use Rattle.octree_specs.specs.NodeCube.{coordinate_of, low_plane, node_cube, side_of}
 use Rattle.octree_specs.specs.Parcels.{HoldAlike}
 use Rattle.octree_specs.specs.Parts.{reaches}
@@ -20,7 +18,6 @@ use Rattle.solid_parity.specs.Columns.{is_in_column, column_meets, column_of, is
 use Rattle.solid_parity.specs.Parity.{one, centre_at, centre_of, is_above, is_covered, is_over, number_over}
 use Rattle.solid_parity.specs.PartCells.{centre_in, first_along, part_side}
 use Rattle.solid_parity.specs.PartLaws.{PartsNeedTheirColumns}
-use Rattle.solid_parity.specs.SolidParts.{HasParities}
 use Rattle.solid_parity.proofs.Beside.{left_of, right_of, before, behind, less_of}
 use Rattle.solid_parity.proofs.Overs.{centre_is}
 use Rattle.solid_parity.proofs.Paired.{both_parts}

@@ -1,8 +1,7 @@
 -- What triangles are over is the sum of what is noted of them, from above.
-use Rattle.std.proofs.Common.{◌≡◌, ℕ, ◌+◌, ◌-◌, ◌*◌, ◌%◌, ◌^◌, ◌<◌, ◌≤◌, Bool, true, false, List, [], ◌∷◌, get_or, ℤ, pos, ◌+ℤ◌, ◌-ℤ◌, ◌*ℤ◌, inl, inr, arith, refl, sym, ap, subst, ◌∙◌}
+use Rattle.std.proofs.Common.{◌≡◌, ℕ, ◌+◌, ◌-◌, ◌*◌, ◌%◌, ◌^◌, ◌<◌, ◌≤◌, Bool, true, false, List, [], ◌∷◌, get_or, ℤ, pos, ◌+ℤ◌, ◌-ℤ◌, ◌*ℤ◌, arith, refl, sym, ap, ◌∙◌}
 use Rattle.std.specs.Prelude.{◌&&◌, not, cond, nat_lt}
 use Rattle.std.specs.List.{sum_by}
-use Rattle.std.proofs.lemmas.Bool.{cases_Bool}
 use Rattle.svo_base.specs.GridShape.{GridShape}
 use Rattle.svo_base.specs.declared.shapes.Triangle.{Triangle}
 use Rattle.svo_base.specs.declared.shapes.Vector.{Vector}
@@ -12,10 +11,10 @@ use Rattle.octree_specs.specs.FacedTriangles.{Faced}
 use Rattle.octree_specs.specs.NodeCube.{coordinate_of}
 use Rattle.octree_specs.specs.Vectors.{vector}
 use Rattle.octree_specs.proofs.Vectors.{vector_same}
-use Rattle.solid_parity.specs.Counts.{HasCounts, AddsUpEach, from_place, noted_of, over_of}
+use Rattle.solid_parity.specs.Counts.{HasCounts, AddsUpEach, noted_of, over_of}
 use Rattle.solid_parity.specs.Heights.{is_above_at}
 use Rattle.solid_parity.specs.Notes.{is_highest, place_in}
-use Rattle.solid_parity.specs.Parity.{one, centre_at, centre_of, crosses, crossings, is_above, is_covered, normal_of, number_over}
+use Rattle.solid_parity.specs.Parity.{one, centre_at, centre_of, crosses, crossings, is_above, is_covered, normal_of}
 use Rattle.solid_parity.specs.PartCells.{Part, part_side, first_along, centre_in, is_over_in}
 use Rattle.solid_parity.specs.SolidParts.{HasParities}
 use Rattle.solid_parity.specs.declared.heights.Heights.{Heights}

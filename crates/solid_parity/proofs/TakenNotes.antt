@@ -1,5 +1,5 @@
 -- The parcels of a stream are noted one after another.
-use Rattle.std.proofs.Common.{◌≡◌, ℕ, ◌+◌, ◌%◌, ◌<◌, ◌≤◌, ◌^◌, ◌-◌, List, [], ◌∷◌, ◌++◌, Bool, length, get_or, replicate, Option, None, Some, Result, Ok, Err, arith, refl, sym, ap, subst, ◌∙◌}
+use Rattle.std.proofs.Common.{◌≡◌, ℕ, ◌≤◌, ◌^◌, ◌-◌, List, [], ◌∷◌, ◌++◌, Bool, length, get_or, replicate, Option, None, Some, Result, Ok, arith, refl, sym, ap, subst, ◌∙◌}
 use Rattle.std.specs.Prelude.{IfSome, IsErr, true, false}
 use Rattle.std.proofs.lemmas.Result.{IfOk-from_err}
 use Rattle.std.proofs.lemmas.List.Sums.{sum_by_push}
@@ -9,7 +9,6 @@ use Rattle.bit_grid.specs.Touched.{AreTouched}
 use Rattle.bit_grid.specs.declared.touched.TouchedBlocks.{TouchedBlocks}
 use Rattle.bit_grid.proofs.PlacesLemmas.{unset_in_zeros}
 use Rattle.svo_base.specs.GridShape.{GridShape}
-use Rattle.svo_base.specs.declared.shapes.Triangle.{Triangle}
 use Rattle.octree_specs.specs.FacedTriangles.{Faced}
 use Rattle.tri_partition.specs.PartStreams.{part_stream, parcels_in}
 use Rattle.tri_partition.specs.Reading.{ReaderView, left_of}
@@ -18,7 +17,7 @@ use Rattle.solid_parity.specs.Counts.{HasCounts, AddsCounts, AreKept, IsSettled,
 use Rattle.solid_parity.specs.Notes.{is_highest}
 use Rattle.solid_parity.specs.Parity.{one}
 use Rattle.solid_parity.specs.PartCells.{Part, part_side}
-use Rattle.solid_parity.specs.SolidParts.{AreAllOf, HasParities, TakesNotes, TakesParities}
+use Rattle.solid_parity.specs.SolidParts.{HasParities, TakesNotes, TakesParities}
 use Rattle.solid_parity.proofs.Counts.{adds_none, adds_then}
 use Rattle.solid_parity.proofs.Overs.{parities_from, sums_up}
 

@@ -5,10 +5,10 @@ use Rattle.std.proofs.lemmas.Bool.{cases_Bool}
 use Rattle.std.proofs.lemmas.Int.{ints}
 use Rattle.svo_base.specs.declared.shapes.Triangle.{Triangle}
 use Rattle.svo_base.specs.declared.shapes.Vector.{Vector}
-use Rattle.octree_specs.proofs.Integers.{product_at_most, product_not_positive, product_not_negative, product_negative, factor_not_negative, -ℤ-*ℤ, *ℤ--ℤ, neg_ℤ-*ℤ, *ℤ-neg_ℤ}
+use Rattle.octree_specs.proofs.Integers.{product_at_most, product_not_positive, product_not_negative, factor_not_negative, -ℤ-*ℤ, *ℤ--ℤ, neg_ℤ-*ℤ, *ℤ-neg_ℤ}
 use Rattle.octree_specs.proofs.SignedTerms.{the, plus, minus, times, same}
 use Rattle.octree_specs.specs.Vectors.{dot_of, cross_of}
-use Rattle.solid_parity.specs.Parity.{one, doubled, rises, crosses, crossings, is_covered, is_above, minus_of, normal_of, have_opposite_signs}
+use Rattle.solid_parity.specs.Parity.{one, doubled, crosses, crossings, is_covered, is_above, minus_of, normal_of, have_opposite_signs}
 use Rattle.solid_parity.proofs.Beside.{crosses_above, crosses_below, less_of, most_of, test_above, test_less, test_most, test_not, turned_product}
 use Rattle.solid_parity.proofs.Paired.{crosses_turned}
 

@@ -1,5 +1,5 @@
 -- The slots of a part that say which of its cells are solid.
-use Rattle.std.specs.Prelude.{◌≡◌, ℕ, ◌+◌, ◌-◌, ◌*◌, ◌%◌, ◌^◌, ◌<◌, List, slice_index, Option, Result, IfSome, OnOk}
+use Rattle.std.specs.Prelude.{◌≡◌, ℕ, ◌+◌, ◌-◌, ◌%◌, ◌^◌, ◌<◌, List, slice_index, Option, Result, IfSome, OnOk}
 use Rattle.svo_base.specs.GridShape.{GridShape}
 use Rattle.octree_specs.specs.FacedTriangles.{Faced}
 use Rattle.morton_scan.specs.Putting.{first_of_part}

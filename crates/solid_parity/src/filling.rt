@@ -1,6 +1,6 @@
 //! The slots of a part's solid cells, filled from the part's stream of parcels.
 
-ghost use Rattle.std.specs.Prelude.{◌≡◌, ℕ, ◌+◌, ◌-◌, ◌*◌, ◌^◌, ◌<◌, ◌≤◌, length, slice_index};
+ghost use Rattle.std.specs.Prelude.{◌≡◌, ℕ, ◌-◌, ◌^◌, ◌<◌, ◌≤◌, length, slice_index};
 ghost use Rattle.bit_grid.specs.Touched.{AreTouched};
 ghost use Rattle.dev_traits.specs.Faults.{HasCause};
 ghost use Rattle.tri_partition.specs.PartStreams.{HasStream, corner_at, faced_of};

@@ -1,6 +1,7 @@
 //! The solid cells of a mesh: those whose centres have an odd number of triangles above them, after
 //! Schwarz and Seidel (2010). What is solid, and which triangles a part needs for it, is said in
-//! `specs/`; here is a law of closed meshes, and which cells of a part's column a triangle is over.
+//! `specs/`; here are the slots of a part's solid cells, filled from the part's stream of parcels, the
+//! parts that need a triangle, the plan of memory, and laws.
 #![tactic(auto)]
 
 mod columns;

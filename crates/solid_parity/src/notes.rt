@@ -1,9 +1,9 @@
 //! What a triangle leaves in the slots of a part's columns: one slot a column is turned.
 
-ghost use Rattle.std.specs.Prelude.{◌≡◌, ℕ, ◌+◌, ◌-◌, ◌*◌, ◌^◌, ◌<◌, ◌≤◌, false, length};
+ghost use Rattle.std.specs.Prelude.{◌≡◌, ℕ, ◌-◌, ◌^◌, ◌<◌, ◌≤◌, true, false, length};
 ghost use Rattle.bit_grid.specs.Touched.{AreTouched};
 ghost use Rattle.solid_parity.specs.Counts.{AddsCounts, AreKept, OthersStay, notes, row_notes, column_notes};
-ghost use Rattle.solid_parity.specs.Notes.{IsNoted};
+ghost use Rattle.solid_parity.specs.Notes.{IsNoted, is_highest};
 ghost use Rattle.solid_parity.specs.PartCells.{part_side};
 ghost use Rattle.solid_parity.specs.Spans.{AreAcross};
 
@@ -20,8 +20,8 @@ pub const ROW_MARKS: u64 = 512;
 /// How many words of marks a part has: one mark for each of its columns.
 pub const MARK_WORDS: usize = 4096;
 
-/// Turns the slot of the highest cell of a column that the triangle is over, if there is one. The
-/// slots are those of the part's cells, in Morton order.
+/// Turns the slot of the highest cell of a column that the triangle is over, if there is one, and
+/// answers whether there is. The slots are those of the part's cells, in Morton order.
 pub fn note_column(
     columns: &PartColumns,
     shape: &Shape,
@@ -38,6 +38,7 @@ pub fn note_column(
     ensures counted { AddsCounts (part_side columns.now.grid columns.now.split) (column_notes columns.now shape.now x y) slots.old slots.new }
     ensures others { OthersStay (part_side columns.now.grid columns.now.split) x y slots.old slots.new }
     ensures none { result ≡ false → slots.new ≡ slots.old }
+    ensures some { result ≡ true → (z : ℕ) × (z < part_side columns.now.grid columns.now.split) × (is_highest columns.now shape.now x y z ≡ true) }
     ensures touched { AreTouched slots.new blocks.new }
 {
     let count = columns.number_under(shape, x, y);
