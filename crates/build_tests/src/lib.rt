@@ -15,6 +15,8 @@ mod node_file_tests;
 #[cfg(test)]
 mod room_plan_tests;
 #[cfg(test)]
+mod solid_parity_tests;
+#[cfg(test)]
 mod tri_cube_tests;
 #[cfg(test)]
 mod tri_partition_spill_tests;

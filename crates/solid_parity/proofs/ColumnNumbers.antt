@@ -95,6 +95,7 @@ centres_from grid split part x y z steps many limits shallow is_x is_y is_z is_s
       y_is = is_y;
       z_is = is_z;
       step_is = is_steps;
+      moves = omega (arith, is_steps, limits.solid);
       side_is = is_many;
       x_near = near 0 (omega arith) x is_x;
       y_near = near 1 (omega arith) y is_y;

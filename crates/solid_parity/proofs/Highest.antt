@@ -48,7 +48,7 @@ highest_is_last p t x y z count under within h =
       | inr above ↦ absurd (differ _ over.0 (under.others z (omega (arith, above)) within))
     ]
 
-last_is_highest : (p : Part) (t : Triangle) (x y z count : ℕ) → AreUnder p t x y count → z + 1 ≡ count → is_highest p t x y z ≡ true
+pub last_is_highest : (p : Part) (t : Triangle) (x y z count : ℕ) → AreUnder p t x y count → z + 1 ≡ count → is_highest p t x y z ≡ true
 unfolding is_highest
 last_is_highest p t x y z count under last =
     rw (under.over z (omega (arith, last))) (no_next (cases_lt (z + 1) (part_side p.grid p.split)))

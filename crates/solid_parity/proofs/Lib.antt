@@ -7,3 +7,13 @@ pub mod Undersides
 pub mod Highest
 mod WorkedSolids
 pub mod Growing
+pub mod Beside
+pub mod Counts
+pub mod BoxColumns
+pub mod PassDown
+pub mod Overs
+pub mod TakenNotes
+pub mod Weights
+pub mod NeededParts
+pub mod ColumnBoxes
+pub mod NarrowPlans

@@ -14,7 +14,7 @@ use Rattle.solid_parity.specs.PartCells.{Part, first_along, centre_in, is_over_i
 use Rattle.solid_parity.specs.Shapes.{AreUnder}
 use Rattle.solid_parity.specs.declared.heights.Heights.{Heights}
 
-further_centre : (grid : GridShape) (axis from place steps : ℕ) (first : ℤ) → first ≡ centre_at grid axis from → steps ≡ 2 * grid.cell → first +ℤ pos (steps * place) ≡ centre_at grid axis (from + place)
+pub further_centre : (grid : GridShape) (axis from place steps : ℕ) (first : ℤ) → first ≡ centre_at grid axis from → steps ≡ 2 * grid.cell → first +ℤ pos (steps * place) ≡ centre_at grid axis (from + place)
 further_centre grid axis from place steps first is_first is_steps = rw (is_first, is_steps) (moved (slice_index_or grid.origin axis (pos 0)) grid.cell from place)
   where
     moved : (o : ℤ) (cell from place : ℕ) → ((pos 2 *ℤ o) +ℤ pos (cell * (2 * from + 1))) +ℤ pos (2 * cell * place) ≡ (pos 2 *ℤ o) +ℤ pos (cell * (2 * (from + place) + 1))

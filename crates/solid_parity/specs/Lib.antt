@@ -7,3 +7,8 @@ pub mod Seen
 pub mod PartCells
 pub mod Shapes
 pub mod Notes
+pub mod Counts
+pub mod Spans
+pub mod SolidParts
+pub mod PartLaws
+pub mod ColumnParts

@@ -1,5 +1,5 @@
 -- The cells of a part by their places in it, and the columns that they make.
-use Rattle.std.specs.Prelude.{◌≡◌, ℕ, ◌+◌, ◌-◌, ◌*◌, ◌^◌, ◌≤◌, Bool, ◌&&◌, ℤ, unsigned_abs}
+use Rattle.std.specs.Prelude.{◌≡◌, ℕ, ◌+◌, ◌-◌, ◌*◌, ◌^◌, ◌<◌, ◌≤◌, Bool, ◌&&◌, ℤ, unsigned_abs}
 use Rattle.svo_base.specs.GridShape.{GridShape}
 use Rattle.svo_base.specs.declared.shapes.Triangle.{Triangle}
 use Rattle.svo_base.specs.declared.shapes.Vector.{Vector}
@@ -36,6 +36,7 @@ pub record HasCentres (p : Part) (low_x low_y low_z : ℤ) (steps many : ℕ) : 
   pub y_is : low_y ≡ centre_at p.grid 1 (first_along p.grid p.split p.part 1)
   pub z_is : low_z ≡ centre_at p.grid 2 (first_along p.grid p.split p.part 2)
   pub step_is : steps ≡ 2 * p.grid.cell
+  pub moves : 0 < steps
   pub side_is : many ≡ part_side p.grid p.split
   pub x_near : unsigned_abs low_x + steps * many ≤ 6 * 2 ^ 31
   pub y_near : unsigned_abs low_y + steps * many ≤ 6 * 2 ^ 31

@@ -3,13 +3,16 @@
 ghost use Rattle.std.specs.Prelude.{◌≡◌, ◌+◌, ◌*◌, ◌^◌, ◌<◌, ◌≤◌, ◌+ℤ◌, ◌*ℤ◌, pos, unsigned_abs};
 ghost use Rattle.solid_parity.specs.PartCells.{part_side};
 ghost use Rattle.solid_parity.specs.Shapes.{AreUnder};
+ghost use Rattle.solid_parity.specs.Spans.{AreReached};
 
 use crate::heights::number_below;
 use crate::prepared::Shape;
 use crate::seen::Seen;
+use crate::spans::reached;
 use morton_code::cube_of;
 use std::marker::Model;
-use svo_base::Grid;
+use svo_base::{Extent, Grid};
+use tri_partition::PartRange;
 
 /// The columns of a part, by the centres of its cells in doubled coordinates: those of the lowest
 /// cell, the step from one cell to the next along an axis, and how many cells there are along an axis.
@@ -62,6 +65,20 @@ impl PartColumns {
         ensures short { result ≤ 2 ^ 12 }
     {
         self.side
+    }
+
+    /// The places along x of the columns that an extent reaches: the triangles in it cover no other.
+    pub fn xs(&self, extent: &Extent) -> PartRange
+        ensures { AreReached self.now 0 extent.now result }
+    {
+        reached(&self.x, self.step, self.side, extent)
+    }
+
+    /// The places along y of such columns.
+    pub fn ys(&self, extent: &Extent) -> PartRange
+        ensures { AreReached self.now 1 extent.now result }
+    {
+        reached(&self.y, self.step, self.side, extent)
     }
 
     /// How many cells of a column the triangle is over. These are the column's lowest ones.

@@ -1,0 +1,8 @@
+use Rattle.solid_parity.proofs.BoxColumns.{reached_from}
+use Rattle.solid_parity.proofs.columns.PartColumns.xs.Goals as goal
+
+pub returns : goal.returns
+returns c =
+    let s = c.self.inside in
+    rw (← c.self.view_is)
+    (reached_from _ 0 c.args.extent.now c.reached.result s.x s.step s.side c.self.invariant.x_is c.self.invariant.step_is c.self.invariant.side_is c.reached.ensures.within c.reached.ensures.before c.reached.ensures.behind)
