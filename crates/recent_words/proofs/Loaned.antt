@@ -1,5 +1,5 @@
 -- Two numbers out of one.
-use Rattle.std.proofs.Common.{◌≡◌, ℕ, zero, suc, ◌+◌, ◌*◌, ◌^◌, refl, sym, ap, ◌∙◌, arith}
+use Rattle.std.proofs.Common.{◌≡◌, ℕ, zero, suc, ◌+◌, ◌*◌, ◌^◌, refl, sym, ap, ◌∙◌, subst, arith}
 use Rattle.std.proofs.Math.Nat.{pow-suc}
 use Rattle.recent_words.specs.Loans.{loan_number}
 
@@ -30,3 +30,8 @@ parts (suc m) (suc n) a b same =
 pub same_loans : (name other behind before : ℕ) → loan_number name behind ≡ loan_number other before → (name ≡ other) × (behind ≡ before)
 unfolding loan_number
 same_loans name other behind before same = parts name other behind before same
+
+-- ---- what holds of a file and of what was read through the table holds of the lent file before and after
+
+pub given_back : {R : Type 0} (P : R → R → Type 0) (first before after given : R) → first ≡ before → given ≡ after → P first after → P before given
+given_back P first before after given begins ends holds = subst (λ r. P r given) begins (subst (λ r. P first r) (sym ends) holds)
