@@ -1,8 +1,13 @@
 -- The file is what was read through the table.
-use Rattle.std.proofs.Common.{rules, ◌≡◌, ◌∙◌}
+use Rattle.std.proofs.Common.{rules, ◌≡◌, List, subst}
+use Rattle.octree_specs.specs.Cells.{Cell}
+use Rattle.ray_walk.specs.Answers.{TellsCells}
 use Rattle.recent_words.proofs.Loaned.{given_back, same_loans}
-use Rattle.ray_answers.specs.Answering.{HasLineCause}
+use Rattle.ray_answers.specs.Answering.{HasLineCause, RefusesNoWord}
 use Rattle.ray_answers.proofs.answering.answer_lines.Goals as goal
+
+pub returns-clause-sound : goal.returns-clause-sound
+returns-clause-sound g c = subst (λ r. (cells : List Cell) → TellsCells (g.R.Records.file r) cells → RefusesNoWord c.answer_each.result) c.new-recent.ensures.now c.answer_each.ensures.sound
 
 pub returns-clause-cause : goal.returns-clause-cause
 returns-clause-cause g c =
