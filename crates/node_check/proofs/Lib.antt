@@ -1,5 +1,6 @@
 pub mod Recursion
 pub mod Parents
+pub mod Leaves
 pub mod Files
 pub mod Walks
 pub mod SmallCodes

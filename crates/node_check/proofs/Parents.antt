@@ -62,7 +62,7 @@ module _ (rule : LeafRule) (height word number at count : ℕ) (misplaced : Bool
       by_test rule words height word number at count misplaced high own ones test
       ∙ ap (λ b. cond b (Err number) (and_then (fit_each (fit rule words (height - 1)) count (word / 256) at) (fit_parent number word))) refused
 
-  by_children : (words : List ℕ) → word ≡ slice_index words number → misplaced ≡ false
+  pub by_children : (words : List ℕ) → word ≡ slice_index words number → misplaced ≡ false
       → fit rule words height number at ≡ and_then (fit_each (fit rule words (height - 1)) count (word / 256) at) (fit_parent number word)
   by_children words own placed =
       by_test rule words height word number at count misplaced high own ones test

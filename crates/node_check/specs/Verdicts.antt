@@ -1,5 +1,5 @@
 -- What the checker answers.
-use Rattle.std.specs.Prelude.{◌≡◌, ℕ, ◌+◌, ◌*◌, ◌^◌, ◌<◌, ◌≤◌, ⊤, cond, List, length, Option, None, Some, Result, Ok, Err}
+use Rattle.std.specs.Prelude.{◌≡◌, ℕ, ◌+◌, ◌-◌, ◌*◌, ◌^◌, ◌<◌, ◌≤◌, ⊤, cond, List, length, slice_index, Option, None, Some, Result, Ok, Err}
 use Rattle.octree_specs.specs.Cells.{Cell}
 use Rattle.octree_specs.specs.Checking.{LeafRule, Fitted}
 use Rattle.octree_specs.specs.Formats.{StandFor}
@@ -18,6 +18,10 @@ Agrees wanted (Err Failed) = ⊤
 -- a leaf is placed where the words below it would be
 abbrev pub leaf_fit : LeafRule → (word number at : ℕ) → Result Fitted ℕ
 leaf_fit rule word number at = cond (rule.allows word) (Ok (record { next = at; cells = rule.cells word })) (Err number)
+
+-- the same of a leaf whose word stands among those of its siblings, the first of which has the number `base`
+abbrev pub leaf_among : LeafRule → List ℕ → (base number at : ℕ) → Result Fitted ℕ
+leaf_among rule siblings base number at = leaf_fit rule (slice_index siblings (number - base)) number at
 
 -- a whole file is refused by this number, or it has these numbers of words and cells, unless a read failed
 abbrev pub IsVerdict : Option ℕ → Totals → Result Totals CheckFault → Type 0

@@ -1,5 +1,5 @@
 -- What walks down a file's words answer.
-use Rattle.std.specs.Prelude.{◌≡◌, ℕ, zero, suc, ◌+◌, ◌-◌, ◌/◌, ◌%◌, ◌^◌, ◌<◌, ◌≤◌, ◌==◌, ◌&&◌, ◌||◌, ◌⊎◌, ⊤, not, nat_lt, nat_le, Bool, true, false, cond, is_some, List, [], ◌∷◌, slice_index, Option, None, Some, Result, Ok, Err, IfSome}
+use Rattle.std.specs.Prelude.{◌≡◌, ℕ, zero, suc, ◌-◌, ◌/◌, ◌%◌, ◌^◌, ◌<◌, ◌≤◌, ◌==◌, ◌&&◌, ◌||◌, ◌⊎◌, ⊤, not, nat_lt, nat_le, Bool, true, false, cond, is_some, List, [], ◌∷◌, slice_index, Option, None, Some, Result, Ok, Err, IfSome}
 use Rattle.octree_specs.specs.Cells.{Cell}
 use Rattle.octree_specs.specs.Checking.{mask_in, base_in}
 use Rattle.octree_specs.specs.Formats.{face_leaves}

@@ -2,10 +2,10 @@
 
 ghost use Rattle.std.specs.Prelude.{◌≡◌, ℕ, ◌+◌, ◌-◌, ◌*◌, ◌/◌, ◌%◌, ◌^◌, ◌==◌, ◌&&◌, ◌||◌, ◌<◌, ◌≤◌, nat_lt, nat_le, not, length, slice_index, IfSome, IfOk, OnOk, Ok, Err, count_ones};
 ghost use Rattle.svo_base.specs.declared.grids.TheConstants.{MAX_DEPTH};
-ghost use Rattle.octree_specs.specs.Checking.{rule_of, fit, fit_parent, refused_by, refused_in};
+ghost use Rattle.octree_specs.specs.Checking.{rule_of, and_then, fit, fit_each, fit_parent, refused_by, refused_in};
 ghost use Rattle.octree_specs.specs.Formats.{IsFormat, levels_of};
 ghost use Rattle.node_check.specs.Counts.{HasCauseOf, LooksAsReads};
-ghost use Rattle.node_check.specs.Verdicts.{Agrees, leaf_fit, IsVerdict, IsSettled, IsBounded, ReadsFew};
+ghost use Rattle.node_check.specs.Verdicts.{Agrees, leaf_among, leaf_fit, IsVerdict, IsSettled, IsBounded, ReadsFew};
 ghost use Rattle.node_check.specs.declared.checking.CheckFault.TheVariants.{Failed};
 
 use crate::siblings::read_siblings;
@@ -168,6 +168,9 @@ fn check_node<R: Records, L: Ledger>(
         });
     }
     let siblings = read_siblings(nodes, base, count, reads)?;
+    if height == 1 {
+        return leaves_subtree(format, node, base, &siblings, count, at);
+    }
     let mut below = Subtree { next: at, cells: 0 };
     for place in 0..count {
         let child = Node {
@@ -216,6 +219,36 @@ fn parent_subtree(node: &Node, below: &Subtree) -> Result<Subtree, CheckFault>
         next: base + u64::from(ones(node.word)),
         cells: below.cells,
     })
+}
+
+/// The span of a node just above the leaves, of which so many from a number on have these words.
+fn leaves_subtree(
+    format: u32,
+    node: &Node,
+    base: u64,
+    siblings: &[u64; 8],
+    count: u32,
+    at: u64,
+) -> Result<Subtree, CheckFault>
+    requires known { IsFormat format }
+    requires count { count ≤ 8 }
+    requires base { base < 2 ^ 60 }
+    ensures fits { Agrees (and_then (fit_each (leaf_among (rule_of format) siblings.now base) count base at) (fit_parent node.now.number node.now.word)) result }
+    ensures next { IfOk result (λ span. (at ≡ node.now.word / 256) × (span.next ≡ node.now.word / 256 + count_ones (node.now.word % 256))) }
+    ensures cells { IfOk result (λ span. span.cells ≤ 8 * count) }
+    ensures unfailed { result ≡ Err Failed → ⊥ }
+{
+    let mut cells = 0;
+    for place in 0..count {
+        let word = siblings[place as usize];
+        if !is_lawful(format, word) {
+            return Err(CheckFault::Refused {
+                number: base + u64::from(place),
+            });
+        }
+        cells += cell_count(format, word);
+    }
+    parent_subtree(node, &Subtree { next: at, cells })
 }
 
 /// The span of a leaf.

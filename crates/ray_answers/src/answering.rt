@@ -26,6 +26,7 @@ use dev_traits::{ByteSink, ByteSource};
 use near_query::Search;
 use node_file::Records;
 use ply_text::Tokens;
+use recent_words::RecentWords;
 use std::alloc::Global;
 use std::sync::ledger::Ledger;
 use svo_base::Steps;
@@ -83,8 +84,35 @@ pub fn answer_text<R: Records, I: ByteSource, O: ByteSink, L: Ledger>(
     put_rest(out, &mut waiting, answered)
 }
 
-/// Answers the queries of all lines. The last answers wait.
+/// Answers the queries of all lines. The last answers wait. The words that a query reads are remembered
+/// for those behind it: many go the same way at first, and the face of a cell that was hit is found by
+/// the way on which the cell was.
 fn answer_lines<R: Records, I: ByteSource, O: ByteSink, L: Ledger>(
+    kind: QueryKind,
+    nodes: &mut R,
+    tokens: &mut Tokens<'_, I>,
+    out: &mut O,
+    waiting: &mut Waiting,
+    search: &mut Search,
+    reads: &mut Steps<L>,
+) -> Result<(), LineStop>
+    requires free { tokens.old.stopped ≡ None }
+    ensures lent { SameLent tokens.old tokens.new }
+    ensures stops { IfErr result (MayStop kind) }
+    ensures over { (a : Reading) (start : Option (List ℕ)) → IsUnderWay kind (R.file nodes.old) a (reading tokens.old) start (O.written out.old) waiting.old.items
+        → IsOver kind (R.file nodes.old) a (reading tokens.new) start (O.written out.new) waiting.new.items result }
+    ensures sound { (cells : List Cell) → TellsCells (R.file nodes.old) cells → RefusesNoWord result }
+    ensures refused { RefusesSo (R.file nodes.old).words (R.file nodes.old).totals.records (R.file nodes.old).grid.depth result }
+    ensures cause { HasLineCause (I.faults tokens.old.input.now) (I.faults tokens.new.input.now) (O.faults out.old) (O.faults out.new) (R.faults nodes.old) (R.faults nodes.new) result }
+    ensures same { R.file nodes.new ≡ R.file nodes.old }
+    ensures lender { R.lender nodes.new ≡ R.lender nodes.old }
+{
+    let mut recent = RecentWords::new(nodes);
+    answer_each(kind, &mut recent, tokens, out, waiting, search, reads)
+}
+
+/// Answers the queries of the lines, one after another.
+fn answer_each<R: Records, I: ByteSource, O: ByteSink, L: Ledger>(
     kind: QueryKind,
     nodes: &mut R,
     tokens: &mut Tokens<'_, I>,

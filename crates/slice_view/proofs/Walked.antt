@@ -12,7 +12,7 @@ use Rattle.node_check.specs.Walks.{face_at, has_child, IsWordOf, LeadsOn}
 use Rattle.node_check.specs.declared.walking.WalkFault.{WalkFault}
 use Rattle.node_check.specs.declared.walking.WalkFault.TheVariants.{Failed, Refused}
 use Rattle.node_check.proofs.NextCells.{below_leads}
-use Rattle.node_check.proofs.Walks.{none_at, filled_is, mask_at, child_leads}
+use Rattle.node_check.proofs.Walks.{none_at, filled_is, mask_at}
 use Rattle.slice_view.specs.Bands.{IsBand, IsSquare, ArePainted, PaintsUnder, band_size, cell_of, crosses}
 use Rattle.slice_view.specs.declared.bands.Band.{Band}
 use Rattle.slice_view.specs.declared.squares.Square.{Square}

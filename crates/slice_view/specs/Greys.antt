@@ -1,5 +1,5 @@
 -- The greys of a view's pixels.
-use Rattle.std.specs.Prelude.{◌≡◌, ℕ, suc, ◌+◌, ◌-◌, ◌*◌, ◌/◌, ◌%◌, nat_lt, if◌then◌else◌, ⊤, List, [], ◌∷◌, Option, None, Some, Result, Ok, Err}
+use Rattle.std.specs.Prelude.{◌≡◌, ℕ, suc, ◌-◌, ◌*◌, ◌/◌, ◌%◌, nat_lt, if◌then◌else◌, ⊤, List, [], ◌∷◌, Option, None, Some, Result, Ok, Err}
 use Rattle.svo_base.specs.GridShape.{GridShape}
 use Rattle.octree_specs.specs.Cells.{Cell}
 use Rattle.ray_fraction.specs.RayShape.{RayShape}

@@ -17,6 +17,7 @@ use arrayvec::ArrayVec;
 use dev_traits::ByteSink;
 use node_check::{AnswerStop, WalkFault};
 use node_file::Records;
+use recent_words::RecentWords;
 use std::sync::ledger::Ledger;
 use svo_base::Steps;
 
@@ -49,8 +50,26 @@ pub fn view<R: Records, O: ByteSink, L: Ledger>(
     put_pixels(nodes, camera, out, reads)
 }
 
-/// Puts out the greys of all pixels, a block at a time.
+/// Puts out the greys of all pixels. The words that a ray reads are remembered for those beside it,
+/// which mostly go the same way.
 fn put_pixels<R: Records, O: ByteSink, L: Ledger>(
+    nodes: &mut R,
+    camera: &Camera,
+    out: &mut O,
+    reads: &mut Steps<L>,
+) -> Result<(), AnswerStop>
+    ensures told { (cells : List Cell) → TellsCells (R.file nodes.old) cells → PutsGreys camera.now (R.file nodes.old).grid cells 0 (camera.now.width * camera.now.height) (O.written out.old) (O.written out.new) result }
+    ensures refused { StopsAsCast (R.file nodes.old).words (R.faults nodes.old) (R.faults nodes.new) result }
+    ensures same { R.file nodes.new ≡ R.file nodes.old }
+    ensures lender { R.lender nodes.new ≡ R.lender nodes.old }
+    ensures cause { HasStopCause (O.faults out.old) (O.faults out.new) (R.faults nodes.old) (R.faults nodes.new) result }
+{
+    let mut recent = RecentWords::new(nodes);
+    put_blocks(&mut recent, camera, out, reads)
+}
+
+/// Puts out the greys of all pixels, a block at a time.
+fn put_blocks<R: Records, O: ByteSink, L: Ledger>(
     nodes: &mut R,
     camera: &Camera,
     out: &mut O,

@@ -6,6 +6,7 @@ use Rattle.node_file.specs.FileView.{FileView}
 use Rattle.node_check.specs.Verdicts.{Agrees}
 use Rattle.node_check.proofs.Recursion.{IsLeft}
 use Rattle.node_check.proofs.Parents.{leaf_agrees, misplaced_agrees, child_agrees, parent_agrees, children_before, next_left, more_cells, cells_small, bounded, err_is}
+use Rattle.node_check.proofs.Leaves.{siblings_agree}
 use Rattle.node_check.proofs.checking.+check_node.Goals as goal
 
 pub returns-then-height-eq0-clause-fits : goal.returns-then-height-eq0-clause-fits
@@ -17,6 +18,11 @@ pub returns-then-is_misplaced-clause-fits : goal.returns-then-is_misplaced-claus
 returns-then-is_misplaced-clause-fits g t c =
     misplaced_agrees (rule_of c.args.format) c.args.height c.args.node.now.word c.args.node.now.number c.args.at c.ones-count.result c.is_misplaced.result c.if-height-eq0.false c.ones-count.ensures.value c.is_misplaced.ensures
     (g.R.Records.file c.args.nodes.now).words c.requires.word c.if-is_misplaced.true
+
+pub returns-then-height-eq1-clause-fits : goal.returns-then-height-eq1-clause-fits
+returns-then-height-eq1-clause-fits g t c =
+    siblings_agree (rule_of c.args.format) c.args.height c.args.node.now.word c.args.node.now.number c.args.at c.ones-count.result c.is_misplaced.result c.if-height-eq0.false c.ones-count.ensures.value c.is_misplaced.ensures
+    (g.R.Records.file c.args.nodes.now).words c.in_ok-siblings.siblings c.leaves_subtree.result c.requires.word c.if-is_misplaced.false c.if-height-eq1.true c.in_ok-siblings.ensures.words c.leaves_subtree.ensures.fits
 
 pub returns-in_err-span-clause-fits : goal.returns-in_err-span-clause-fits
 returns-in_err-span-clause-fits g t c =

@@ -1,21 +1,29 @@
--- The lines one after another, until there is none or one stops the queries.
-use Rattle.std.proofs.Common.{◌∙◌, Ok, ap}
-use Rattle.ply_text.specs.Reading.{reading}
-use Rattle.ray_answers.proofs.Overs.{no_more_lines, lines_stop, sound_stop}
+-- The file is what was read through the table.
+use Rattle.std.proofs.Common.{rules, ◌≡◌, List, subst}
+use Rattle.octree_specs.specs.Cells.{Cell}
+use Rattle.ray_walk.specs.Answers.{TellsCells}
+use Rattle.recent_words.proofs.Loaned.{given_back, same_loans}
+use Rattle.ray_answers.specs.Answering.{HasLineCause, RefusesNoWord}
 use Rattle.ray_answers.proofs.answering.answer_lines.Goals as goal
 
-pub returns-in-Err-clause-over : goal.returns-in-Err-clause-over
-returns-in-Err-clause-over g c = λ a start way.
-    lines_stop c.args.kind (g.R.Records.file c.args.nodes.now) (g.R.Records.file c.loop-stop.nodes) c.loop-stop.invariant.same a (reading c.loop-stop.tokens) (reading c.answer_next.new.tokens) start
-    (g.O.ByteSink.written c.loop-stop.out) (g.O.ByteSink.written c.answer_next.new.out) c.loop-stop.waiting.items c.answer_next.new.waiting.items c.answer_next.result
-    (c.answer_next.ensures.goes a start) (c.loop-stop.invariant.way a start way) _ c.in-Err.stop c.in-Err.is
+pub returns-clause-sound : goal.returns-clause-sound
+returns-clause-sound g c = subst (λ r. (cells : List Cell) → TellsCells (g.R.Records.file r) cells → RefusesNoWord c.answer_each.result) c.new-recent.ensures.now c.answer_each.ensures.sound
 
-pub returns-in-Ok-false-clause-over : goal.returns-in-Ok-false-clause-over
-returns-in-Ok-false-clause-over g c = λ a start way.
-    no_more_lines c.args.kind (g.R.Records.file c.args.nodes.now) (g.R.Records.file c.loop-stop.nodes) c.loop-stop.invariant.same a (reading c.loop-stop.tokens) (reading c.answer_next.new.tokens) start
-    (g.O.ByteSink.written c.loop-stop.out) (g.O.ByteSink.written c.answer_next.new.out) c.loop-stop.waiting.items c.answer_next.new.waiting.items c.answer_next.result
-    (c.answer_next.ensures.goes a start) (c.loop-stop.invariant.way a start way) _ _ (c.in-Ok-false.is ∙ ap Ok c.in-Ok-false.field-0-test)
+pub returns-clause-cause : goal.returns-clause-cause
+returns-clause-cause g c =
+    let loans = same_loans _ _ _ _ c.answer_each.ensures.lender in
+    given_back
+    (λ before after. HasLineCause (g.I.ByteSource.faults c.args.tokens.now.input.now) (g.I.ByteSource.faults c.answer_each.new.tokens.input.now) (g.O.ByteSink.faults c.args.out.now) (g.O.ByteSink.faults c.answer_each.new.out)
+    (g.R.Records.faults before) (g.R.Records.faults after) c.answer_each.result)
+    c.new-recent.result.nodes.now c.args.nodes.now c.answer_each.new.nodes.nodes.now _ c.new-recent.ensures.now (search (rules, loans.0)) c.answer_each.ensures.cause
 
-pub returns-in-Err-clause-sound : goal.returns-in-Err-clause-sound
-returns-in-Err-clause-sound g c = λ cells tells.
-    sound_stop (Unit {0}) (g.R.Records.file c.args.nodes.now) (g.R.Records.file c.loop-stop.nodes) cells c.answer_next.result c.in-Err.stop c.loop-stop.invariant.same c.in-Err.is (c.answer_next.ensures.sound cells) tells
+pub returns-clause-same : goal.returns-clause-same
+returns-clause-same g c =
+    let loans = same_loans _ _ _ _ c.answer_each.ensures.lender in
+    given_back (λ before after. g.R.Records.file after ≡ g.R.Records.file before) c.new-recent.result.nodes.now c.args.nodes.now c.answer_each.new.nodes.nodes.now _ c.new-recent.ensures.now (search (rules, loans.0))
+    c.answer_each.ensures.same
+
+pub returns-clause-lender : goal.returns-clause-lender
+returns-clause-lender g c =
+    let loans = same_loans _ _ _ _ c.answer_each.ensures.lender in
+    given_back (λ before after. g.R.Records.lender after ≡ g.R.Records.lender before) c.new-recent.result.nodes.now c.args.nodes.now c.answer_each.new.nodes.nodes.now _ c.new-recent.ensures.now (search (rules, loans.0)) loans.1

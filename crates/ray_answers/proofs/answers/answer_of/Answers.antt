@@ -1,5 +1,5 @@
 -- The line of a hit.
-use Rattle.std.proofs.Common.{◌≡◌, Ok, subst, sym}
+use Rattle.std.proofs.Common.{subst, sym}
 use Rattle.ray_answers.specs.AnswerLines.{IsAnswer}
 use Rattle.ray_answers.specs.Runs.{FindsHit}
 use Rattle.ray_answers.specs.declared.queries.Query.{Query}

@@ -1,5 +1,5 @@
 -- A point that has a nearest cell, with the cell's face; one that has none; and a search that stopped.
-use Rattle.std.proofs.Common.{◌≡◌, Ok, ap, subst, ◌∙◌, sym}
+use Rattle.std.proofs.Common.{Ok, ap, subst, ◌∙◌, sym}
 use Rattle.std.specs.Prelude.{Result, Option, None, Some, IfOk}
 use Rattle.std.specs.Result.{IfErr}
 use Rattle.near_query.specs.Faults.{RefusesNone}

@@ -1,10 +1,7 @@
 -- The header, and then the greys.
-use Rattle.std.proofs.Common.{◌≡◌, ◌*◌, Ok, Err, sym, subst, ap}
+use Rattle.std.proofs.Common.{Ok, Err, sym, subst}
 use Rattle.std.specs.Prelude.{⊤}
-use Rattle.node_file.specs.FileView.{FileView}
-use Rattle.node_check.specs.Stops.{Puts}
-use Rattle.slice_view.specs.Pictures.{pgm_header}
-use Rattle.slice_view.specs.Views.{PutsGreys, PutsView}
+use Rattle.slice_view.specs.Views.{PutsView}
 use Rattle.slice_view.proofs.ViewPuts.{err_is, header_of, puts_header, puts_view}
 use Rattle.slice_view.proofs.viewing.view.Goals as goal
 

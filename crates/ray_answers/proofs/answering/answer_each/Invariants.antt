@@ -3,7 +3,7 @@ use Rattle.std.specs.Prelude.{Option}
 use Rattle.ply_text.specs.Reading.{Reading, reading}
 use Rattle.ply_text.specs.Calls.{SameLent}
 use Rattle.ray_answers.specs.Runs.{IsUnderWay}
-use Rattle.ray_answers.proofs.answering.answer_lines.Given as goal
+use Rattle.ray_answers.proofs.answering.answer_each.Given as goal
 
 abbrev pub invariant-loop-stop : goal.invariant-loop-stop
 invariant-loop-stop g l = record {

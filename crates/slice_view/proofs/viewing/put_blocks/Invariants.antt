@@ -3,7 +3,7 @@ use Rattle.std.proofs.Common.{◌≡◌, ◌-◌, ◌≤◌, List}
 use Rattle.octree_specs.specs.Cells.{Cell}
 use Rattle.ray_walk.specs.Answers.{TellsCells}
 use Rattle.slice_view.proofs.ViewPuts.{PutSoFar}
-use Rattle.slice_view.proofs.viewing.put_pixels.Given as goal
+use Rattle.slice_view.proofs.viewing.put_blocks.Given as goal
 
 abbrev pub invariant-loop-from : goal.invariant-loop-from
 invariant-loop-from g l = record {
