@@ -1,4 +1,6 @@
 mod Below
+mod CoarseNodes
+mod CoarsePushes
 mod Heads
 mod HeldWords
 mod MapFiles

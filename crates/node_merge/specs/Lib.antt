@@ -1,4 +1,5 @@
 pub mod Combined
+pub mod Gathered
 pub mod Maps
 pub mod Numbered
 pub mod PairFrames

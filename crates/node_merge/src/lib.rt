@@ -1,8 +1,11 @@
-//! Two node files put together into one.
+//! Two node files put together into one, and a node file with fewer levels.
 #![tactic(auto)]
 
+mod coarse_pushing;
+mod coarsening;
 mod file_merging;
 mod fronts;
+mod gathering;
 mod halves;
 mod kinds;
 mod merging;
@@ -13,6 +16,7 @@ mod sides;
 mod tests;
 mod turning;
 
+pub use coarsening::coarsen;
 pub use file_merging::merge;
 pub use kinds::MergeKind;
 pub use pair_loading::{Frames, PairFault, read_frames};
