@@ -1,4 +1,5 @@
 mod Below
+mod CoarseGrids
 mod CoarseNodes
 mod CoarsePushes
 mod Heads
