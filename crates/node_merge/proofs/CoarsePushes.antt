@@ -1,6 +1,7 @@
 -- Nodes are pushed one after another toward a coarser map.
 use Rattle.std.proofs.Common.{◌≡◌, ℕ, ◌+◌, ◌-◌, ◌*◌, ◌^◌, ◌<◌, ◌≤◌, List, [], Option, None, Some, subst, arith}
 use Rattle.dev_traits.specs.declared.device.ByteSink.{Ghosts}
+use Rattle.svo_base.specs.GridShape.{GridShape}
 use Rattle.node_file.specs.FileView.{FileView}
 use Rattle.node_file.specs.declared.writer.NodeWriter.{NodeWriter}
 use Rattle.node_check.specs.declared.cursor.FacedCell.{FacedCell}
@@ -61,3 +62,8 @@ module _ {O : Type 0} {g : Ghosts O} where
               pushed = λ start has. to_next (coarse_grid levels file.grid) start (AreCoarseFaces file levels) on.from node.code node.face queues new writer after
                   next.0 (omega (arith, small)) next.2 push (on.pushed start has);
             }
+
+  -- the queues and the writer of the coarser grid
+  pub begun_coarse : (file : FileView) (levels : ℕ) (grid : GridShape) (start : Option (List ℕ)) (queues : LevelQueues) (writer : NodeWriter O g) → grid ≡ coarse_grid levels file.grid
+      → HasPushed grid start 0 [] queues writer → HasPushed (coarse_grid levels file.grid) start 0 [] queues writer
+  begun_coarse file levels grid start queues writer same has = subst (λ (shape : GridShape). HasPushed shape start 0 [] queues writer) same has
