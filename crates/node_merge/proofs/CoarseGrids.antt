@@ -1,6 +1,6 @@
 -- The grid of so many levels less.
 use Rattle.std.proofs.Common.{◌≡◌, ℕ, ◌+◌, ◌-◌, ◌*◌, ◌%◌, ◌^◌, ◌<◌, ◌≤◌, true, List, [], ◌∷◌, Result, Ok, refl, sym, ap, subst, ◌∙◌, arith, ℤ, pos, lit<}
-use Rattle.std.specs.Prelude.{All, FitsSigned, unsigned_abs, nat_le}
+use Rattle.std.specs.Prelude.{All, unsigned_abs, nat_le}
 use Rattle.std.specs.Result.{IsOk}
 use Rattle.std.specs.Int.{w64, cast_signed, cast_unsigned}
 use Rattle.std.specs.List.{list_all}

@@ -102,21 +102,21 @@ left_less file at before now cell is stands later =
     subst (λ head. codes_left (8 ^ file.grid.depth) now.head < codes_left (8 ^ file.grid.depth) head) (sym is) less
 
 -- the cell whose face was found under a node
-pub record IsUnder (levels node face : ℕ) (head : Option FacedCell) : Type 0 where
+record IsUnder (levels node face : ℕ) (head : Option FacedCell) : Type 0 where
   pub cell : FacedCell
   pub is : head ≡ Some cell
   pub over : node ≡ cell.code / 8 ^ levels
   pub face_is : face ≡ cell.face
 
-pub under_of : (levels node face : ℕ) (head : Option FacedCell) → face_under levels node head ≡ Some face → IsUnder levels node face head
+under_of : (levels node face : ℕ) (head : Option FacedCell) → face_under levels node head ≡ Some face → IsUnder levels node face head
 under_of levels node face None none = cc
 under_of levels node face (Some cell) some = elim (cases_eq (cell.code / 8 ^ levels) node) [
   | inl same ↦ record {
-      cell = cell;
-      is = refl;
-      over = sym same;
-      face_is = one_face (sym some ∙ cond-true (cell.code / 8 ^ levels == node) (Some cell.face) None (eq-eqb (cell.code / 8 ^ levels) node same));
-    }
+    cell = cell;
+    is = refl;
+    over = sym same;
+    face_is = one_face (sym some ∙ cond-true (cell.code / 8 ^ levels == node) (Some cell.face) None (eq-eqb (cell.code / 8 ^ levels) node same));
+  }
   | inr apart ↦ absurd (no_face (sym (cond-false (cell.code / 8 ^ levels == node) (Some cell.face) None (ne_eqb (cell.code / 8 ^ levels) node apart)) ∙ some))
 ]
   where
@@ -158,7 +158,7 @@ module _ (file : FileView) (levels node : ℕ) (before : Front) where
         fewer = left_less file at before now cell is stands later;
       }
 
-  pub gather_more : (face : ℕ) (now later : Front) (next : FacedCell) → now.head ≡ Some next → node ≡ next.code / 8 ^ levels → IsFront file (next.code + 1) later
+  gather_more : (face : ℕ) (now later : Front) (next : FacedCell) → now.head ≡ Some next → node ≡ next.code / 8 ^ levels → IsFront file (next.code + 1) later
       → IsGathering file levels node face before now → IsGathering file levels node (min face next.face) before later
   gather_more face now later next is over stands gathers =
       let high : next.code < node * 8 ^ levels + 8 ^ levels = code_high levels next.code node over in
@@ -178,6 +178,15 @@ module _ (file : FileView) (levels node : ℕ) (before : Front) where
             ∙ ap (λ o. least_of o (Some next.face)) (gathers.told from begun cells map);
         fewer = omega (arith, less, gathers.fewer);
       }
+
+  -- the face of a cell that was found under the node
+  pub gather_found : (here : FileView) (face other least : ℕ) (now later : Front) → here ≡ file → face_under levels node now.head ≡ Some other → least ≡ min face other
+      → IfSome now.head (λ cell. IsFront here (cell.code + 1) later) → IsGathering file levels node face before now → IsGathering file levels node least before later
+  gather_found here face other least now later same found lesser stands gathers =
+      let under : IsUnder levels node other now.head = under_of levels node other now.head found in
+      let there : IsFront file (under.cell.code + 1) later =
+      subst (λ (f : FileView). IsFront f (under.cell.code + 1) later) same (subst (λ head. IfSome head (λ cell. IsFront here (cell.code + 1) later)) under.is stands) in
+      subst (λ n. IsGathering file levels node n before later) (ap (min face) (sym under.face_is) ∙ sym lesser) (gather_more face now later under.cell under.is under.over there gathers)
 
   under_later : (walk at bound : ℕ) (head : Option FacedCell) → face_under levels node head ≡ None → node * 8 ^ levels ≤ at → IfSome head (IsBehind walk at bound) → AtLeast ((node + 1) * 8 ^ levels) head
   under_later walk at bound None none low behind = tt
@@ -205,18 +214,18 @@ module _ (file : FileView) (levels node : ℕ) (before : Front) where
         low,
         node_inside levels file.grid.depth cell.code node less over behind.2,
         (λ f faces. (
-            (λ c above below.
-                let head = head_of file (from * 8 ^ levels) before cell is begun faces.fine_cells faces.fine_map in
-                let first : from * 8 ^ levels ≤ c * 8 ^ levels = scaled levels from c above in
-                let last : (c + 1) * 8 ^ levels ≤ node * 8 ^ levels = scaled levels (c + 1) node (omega (arith, below)) in
-                faces.faces_are c
-                ∙ (least_to (face_at faces.fine_cells) (c * 8 ^ levels) 0 (8 ^ levels) (omega arith)
-                (λ code least most. head.0 code (omega (arith, least, first)) (omega (arith, most, last, under)))
-                ∙ least_zero (face_at faces.fine_cells) (c * 8 ^ levels))),
-            faces.faces_are node
-            ∙ (least_to (face_at faces.fine_cells) (node * 8 ^ levels) gathers.count (8 ^ levels) gathers.inside
-            (λ code least most. none_below (face_at faces.fine_cells) (node * 8 ^ levels + gathers.count) ((node + 1) * 8 ^ levels) now.head (gathers.front.told faces.fine_cells faces.fine_map) later code least (omega (arith, most, next)))
-            ∙ gathers.told from begun faces.fine_cells faces.fine_map),
+          (λ c above below.
+              let head = head_of file (from * 8 ^ levels) before cell is begun faces.fine_cells faces.fine_map in
+              let first : from * 8 ^ levels ≤ c * 8 ^ levels = scaled levels from c above in
+              let last : (c + 1) * 8 ^ levels ≤ node * 8 ^ levels = scaled levels (c + 1) node (omega (arith, below)) in
+              faces.faces_are c
+              ∙ (least_to (face_at faces.fine_cells) (c * 8 ^ levels) 0 (8 ^ levels) (omega arith)
+              (λ code least most. head.0 code (omega (arith, least, first)) (omega (arith, most, last, under)))
+              ∙ least_zero (face_at faces.fine_cells) (c * 8 ^ levels))),
+          faces.faces_are node
+              ∙ (least_to (face_at faces.fine_cells) (node * 8 ^ levels) gathers.count (8 ^ levels) gathers.inside
+              (λ code least most. none_below (face_at faces.fine_cells) (node * 8 ^ levels + gathers.count) ((node + 1) * 8 ^ levels) now.head (gathers.front.told faces.fine_cells faces.fine_map) later code least (omega (arith, most, next)))
+              ∙ gathers.told from begun faces.fine_cells faces.fine_map),
         )),
         front_later file (node * 8 ^ levels + gathers.count) ((node + 1) * 8 ^ levels) now (omega (arith, next, gathers.inside)) later gathers.front,
       )

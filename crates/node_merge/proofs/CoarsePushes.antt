@@ -1,5 +1,5 @@
 -- Nodes are pushed one after another toward a coarser map.
-use Rattle.std.proofs.Common.{◌≡◌, ℕ, ◌+◌, ◌-◌, ◌*◌, ◌^◌, ◌<◌, ◌≤◌, List, [], Option, None, Some, subst, arith}
+use Rattle.std.proofs.Common.{◌≡◌, ℕ, ◌+◌, ◌-◌, ◌*◌, ◌^◌, ◌≤◌, List, [], Option, None, Some, subst, arith}
 use Rattle.dev_traits.specs.declared.device.ByteSink.{Ghosts}
 use Rattle.svo_base.specs.GridShape.{GridShape}
 use Rattle.node_file.specs.FileView.{FileView}

@@ -8,5 +8,7 @@ mod MapFiles
 mod MergedFaces
 mod Numbers
 mod OneGrid
+mod PieceCells
+mod Pieces
 mod Turns
 mod ToMaps

@@ -1,11 +1,9 @@
 -- Each nonempty node is met once, in ascending order of their codes.
-use Rattle.std.proofs.Common.{◌≡◌, ℕ, ◌*◌, ◌^◌, ◌≤◌, Option, None, Some, refl, subst, ◌∙◌, arith}
+use Rattle.std.proofs.Common.{◌≤◌, None, Some, refl, subst, ◌∙◌, arith}
 use Rattle.std.specs.Prelude.{IfSome}
 use Rattle.cell_lists.proofs.Lifts.{more_moves}
 use Rattle.node_file.specs.FileView.{FileView}
 use Rattle.node_check.specs.declared.cursor.FacedCell.{FacedCell}
-use Rattle.node_merge.specs.Gathered.{GathersNext, codes_left}
-use Rattle.node_merge.specs.Pushing.{IsFront}
 use Rattle.node_merge.proofs.CoarseNodes.{gathered_as}
 use Rattle.node_merge.proofs.CoarsePushes.{pushing_none, pushing_first, pushing_all, pushing_refused, pushing_next}
 use Rattle.node_merge.proofs.MergedFaces.{accepts_of}

@@ -1,5 +1,5 @@
 -- The cells are pushed, and then the queues and the writer are finished.
-use Rattle.std.proofs.Common.{rules, ◌-◌, ◌≤◌, [], Err, ap, ◌∙◌, arith}
+use Rattle.std.proofs.Common.{rules, ◌≤◌, [], Err, ap, ◌∙◌, arith}
 use Rattle.svo_base.specs.GridShape.{GridShape}
 use Rattle.node_file.specs.FileView.{FileView}
 use Rattle.node_file.specs.declared.records.Totals.{Totals}

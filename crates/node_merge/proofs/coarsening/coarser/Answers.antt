@@ -1,7 +1,6 @@
 -- The grid meets its limits, since it is as wide as the finer one.
-use Rattle.std.proofs.Common.{◌≡◌, ◌-◌, ◌*◌, ◌%◌, ◌^◌, Ok, ap, subst, ◌∙◌, arith, sym, pos}
+use Rattle.std.proofs.Common.{◌-◌, ◌*◌, ◌%◌, ◌^◌, ap, ◌∙◌, arith, pos}
 use Rattle.std.specs.Int.{w64}
-use Rattle.std.specs.Prelude.{FitsSigned}
 use Rattle.std.proofs.lemmas.Int.{fits_signed_from_abs}
 use Rattle.node_merge.specs.Combined.{coarse_grid}
 use Rattle.node_merge.proofs.CoarseGrids.{side_few, side_is, coarse_made, ok_same, is_made}

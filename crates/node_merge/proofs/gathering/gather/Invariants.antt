@@ -1,5 +1,5 @@
 -- The least face of the node's codes so far. The cells still to come are fewer each time.
-use Rattle.std.proofs.Common.{◌≡◌, ℕ, ◌^◌, ◌≤◌}
+use Rattle.std.proofs.Common.{◌≡◌, ◌^◌, ◌≤◌}
 use Rattle.node_merge.specs.Gathered.{codes_left}
 use Rattle.node_merge.proofs.CoarseNodes.{IsGathering}
 use Rattle.node_merge.proofs.gathering.gather.Given as goal
