@@ -1,9 +1,14 @@
 mod Below
+mod CoarseGrids
+mod CoarseNodes
+mod CoarsePushes
 mod Heads
 mod HeldWords
 mod MapFiles
 mod MergedFaces
 mod Numbers
 mod OneGrid
+mod PieceCells
+mod Pieces
 mod Turns
 mod ToMaps

@@ -1,4 +1,6 @@
 pub mod Combined
+pub mod Gathered
+pub mod Laws
 pub mod Maps
 pub mod Numbered
 pub mod PairFrames

@@ -4,7 +4,7 @@ use Rattle.octree_specs.specs.Cells.{Cell}
 use Rattle.octree_specs.specs.Formats.{StandFor}
 use Rattle.node_file.specs.FileView.{FileView}
 use Rattle.node_check.specs.Walks.{face_at}
-use Rattle.node_merge.specs.Combined.{face_in, merged, coarse}
+use Rattle.node_merge.specs.Combined.{face_in, merged, least_under, coarse}
 use Rattle.node_merge.specs.declared.kinds.MergeKind.{MergeKind}
 
 -- the file tells its words, and they stand for these cells
@@ -34,3 +34,9 @@ pub record AreMergedFaces (kind : MergeKind) (first second : FileView) (face_of 
   pub second_cells : List Cell
   pub second_map : IsMapOf second second_cells
   pub faces_are : (code : ℕ) → face_of code ≡ face_in kind (face_at first_cells code) (face_at second_cells code)
+
+-- a function that gives each node its face in a file's map with so many levels less
+pub record AreCoarseFaces (file : FileView) (levels : ℕ) (face_of : ℕ → Option ℕ) : Type 0 where
+  pub fine_cells : List Cell
+  pub fine_map : IsMapOf file fine_cells
+  pub faces_are : (node : ℕ) → face_of node ≡ least_under levels fine_cells node
