@@ -8,5 +8,5 @@ mod MapFiles
 mod MergedFaces
 mod Numbers
 mod OneGrid
-mod Turns
+pub mod Turns
 mod ToMaps
