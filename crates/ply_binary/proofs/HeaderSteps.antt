@@ -71,7 +71,7 @@ unfolding lines_then
 one_line n m found d place text more = ap (λ k. lines_then k found d place text) more
 
 -- the next line, and the header behind it
-header_step : (found : Bool) (d : Declared) (place : ℕ) (text : List ℕ) (line : Result (Option Piece) TextFault) → next_line_of place text ≡ line
+pub header_step : (found : Bool) (d : Declared) (place : ℕ) (text : List ℕ) (line : Result (Option Piece) TextFault) → next_line_of place text ≡ line
     → header_left found d place text ≡ line_then (λ found d behind. header_left found d (place + line_size text) behind) found d text (line_size text) line
 header_step found d place [] line is =
     one_line 1 0 found d place [] refl

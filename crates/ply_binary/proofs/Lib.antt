@@ -4,4 +4,5 @@ pub mod LineWords
 pub mod HeaderSteps
 pub mod SourceMoves
 pub mod PlainTexts
+pub mod BodyEnds
 pub mod Readings

@@ -1,21 +1,25 @@
 -- How much of an input was read for the text that was given.
-use Rattle.std.proofs.Common.{◌≡◌, ℕ, ◌-◌, ◌<◌, ◌≤◌, ◌⊎◌, inl, inr, List, [], ◌∷◌, ◌++◌, length, take, drop, Option, None, Some, Result, Ok, Err, MatchResult, refl, sym, ap, ◌∙◌, subst, arith, append-nil, length-append, take_at, drop_at}
+use Rattle.std.proofs.Common.{◌≡◌, ℕ, ◌-◌, ◌<◌, ◌≤◌, ◌⊎◌, inl, inr, List, [], ◌∷◌, ◌++◌, length, take, drop, Option, None, Some, Result, Ok, Err, MatchResult, refl, sym, ap, ◌∙◌, subst, arith, append-nil, append_assoc, length-append, take_at, drop_at}
+use Rattle.std.specs.Prelude.{◌≢◌, codes}
 use Rattle.std.specs.Option.{option_map}
 use Rattle.std.proofs.Props.{props}
 use Rattle.std.proofs.Math.Logic.{∥∥₁_elim}
 use Rattle.dev_traits.specs.declared.device.ByteSource.{Ghosts}
 use Rattle.ply_binary.specs.declared.source.AsciiSource.{AsciiSource}
 use Rattle.ply_binary.specs.HeaderTexts.{ascii}
-use Rattle.ply_binary.specs.SourceStates.{text_behind, source_rest, Moves}
+use Rattle.ply_binary.specs.SourceStates.{left_by, text_behind, source_rest, Moves}
 use Rattle.ply_binary.specs.Since.{ReadsSince}
-use Rattle.ply_binary.specs.AsciiChanges.{bytes_in, IsReadAs, IsReadAsAscii}
-use Rattle.ply_binary.proofs.SourceMoves.{moves_given, moves_on}
+use Rattle.ply_reader.specs.Declarations.{declared}
+use Rattle.ply_binary.specs.HeldStates.{held}
+use Rattle.ply_binary.specs.AsciiChanges.{bytes_in, EndsWhole, IsReadAs, IsReadAsAscii}
+use Rattle.ply_binary.proofs.SourceMoves.{empty_parts, moves_given, moves_on}
+use Rattle.ply_binary.proofs.BodyEnds.{Ends, stage_ends}
 use Rattle.ply_binary.proofs.PlainTexts.{no_further}
 
 -- the cases of what was settled
 settled_by : (bytes front behind given left : List ℕ) (next : List ℕ → List ℕ) → bytes ≡ front ++ behind → left ≡ next behind
-    → ((more : List ℕ) → ascii (front ++ more) ≡ given ++ next more) ⊎ ((behind ≡ []) × (ascii front ≡ given ++ next [])) → IsReadAs bytes behind left
-settled_by bytes front behind given left next parts left-is text = record {
+    → ((more : List ℕ) → ascii (front ++ more) ≡ given ++ next more) ⊎ ((behind ≡ []) × (ascii front ≡ given ++ next [])) → Ends next → IsReadAs bytes behind left
+settled_by bytes front behind given left next parts left-is text ends = record {
   behind_is = ap (λ n. drop n bytes) count ∙ ap (drop (length front)) parts ∙ drop_at front behind (length front) refl;
   left_is = ap (λ n. drop n (ascii bytes)) made ∙ ap (drop (length given)) whole ∙ drop_at given left (length given) refl;
   settled = λ some more.
@@ -24,6 +28,7 @@ settled_by bytes front behind given left next parts left-is text = record {
       ∙ ap (take (length (ascii bytes) - length left)) (always some more) ∙ ap (λ n. take n (given ++ next more)) made ∙ take_at given (next more) (length given) refl
       ∙ sym (ap (λ n. take n (ascii bytes)) made ∙ ap (take (length given)) whole ∙ take_at given left (length given) refl);
   plain = λ same. plain_by behind refl same;
+  ended = λ none one. ended_by behind refl none one;
 }
   where
     whole_by : ((more : List ℕ) → ascii (front ++ more) ≡ given ++ next more) ⊎ ((behind ≡ []) × (ascii front ≡ given ++ next [])) → ascii bytes ≡ given ++ next behind
@@ -52,6 +57,20 @@ settled_by bytes front behind given left next parts left-is text = record {
         let some : 0 < length behind = omega (arith, ap length is) in
         let few : length given ≤ length front = no_further bytes front given left b bs same (parts ∙ ap (λ l. front ++ l) is) (sym same ∙ whole) (λ more. (next more, always some more)) in
         omega (arith, few, ap length parts, length-append front behind, ap length same, ap length whole, length-append given left)
+
+    marked_by : (mark : ℕ) → mark ≢ 10 → 0 < length behind → left ≡ [] → ascii (bytes ++ codes " ") ≡ ascii bytes ++ mark ∷ [] → behind ≡ []
+    marked_by mark other some none one =
+        let more : List ℕ = behind ++ codes " " in
+        let longer : ascii (bytes ++ codes " ") ≡ given ++ next more = ap (λ l. ascii (l ++ codes " ")) parts ∙ ap ascii (append_assoc front behind (codes " ")) ∙ always some more in
+        let short : ascii bytes ≡ given = whole ∙ ap (λ l. given ++ l) none ∙ append-nil given in
+        let joined : given ++ next more ≡ given ++ mark ∷ [] = sym longer ∙ one ∙ ap (λ l. l ++ mark ∷ []) short in
+        let last : next more ≡ mark ∷ [] = sym (drop_at given (next more) (length given) refl) ∙ ap (drop (length given)) joined ∙ drop_at given (mark ∷ []) (length given) refl in
+        ends behind 32 mark other (sym left-is ∙ none) last
+
+    ended_by : (l : List ℕ) → behind ≡ l → left ≡ [] → EndsWhole bytes → behind ≡ []
+    ended_by [] is none whole = is
+    ended_by (b ∷ bs) is none (inl space) = marked_by 32 (λ e. omega (arith, e)) (omega (arith, ap length is)) none space
+    ended_by (b ∷ bs) is none (inr mark) = marked_by 120 (λ e. omega (arith, e)) (omega (arith, ap length is)) none mark
 
 rest_by : (text : List ℕ → List ℕ) (told : Option (List ℕ)) → ((bytes : List ℕ) → text bytes ≡ ascii bytes) → option_map text told ≡ option_map ascii told
 rest_by text None same = refl
@@ -84,6 +103,17 @@ module _ {I : Type 0} {g : Ghosts I} where
   lent_read old new (Ok n) into moves = moves.lent.input
   lent_read old new (Err e) into moves = moves.lent.input
 
+  -- where all text was given, and a further byte would be given as one byte, nothing is behind
+  source_ends : (s : AsciiSource I g) → Ends (text_behind s)
+  source_ends s more byte mark other none one =
+      let left : List ℕ → List ℕ = left_by s.stage (declared s.header) s.place s.body in
+      let parts = empty_parts s.text (left (held s.held ++ more)) (sym none) in
+      let behind : List ℕ = (held s.held ++ more) ++ byte ∷ [] in
+      let joined : text_behind s (more ++ byte ∷ []) ≡ s.text ++ left behind = ap (λ l. s.text ++ left l) (sym (append_assoc (held s.held) more (byte ∷ []))) in
+      let last : left behind ≡ mark ∷ [] = ap (λ l. l ++ left behind) (sym parts.0) ∙ sym joined ∙ one in
+      let empty : held s.held ++ more ≡ [] = stage_ends s.stage (declared s.header) s.place s.body (held s.held ++ more) byte mark other parts.1 last in
+      (empty_parts (held s.held) more (sym empty)).1
+
   -- the input is told still, and so is the text
   after_read : (told : Option (List ℕ)) (s : AsciiSource I g) → ReadsSince told s → (bytes : List ℕ) → told ≡ Some bytes
       → (g.rest s.held.input.now ≡ Some (bytes_in (g.rest s.held.input.now))) × (source_rest s ≡ Some (bytes_in (source_rest s))) × IsReadAs bytes (bytes_in (g.rest s.held.input.now)) (bytes_in (source_rest s))
@@ -94,7 +124,7 @@ module _ {I : Type 0} {g : Ghosts I} where
         rest ∙ ap Some (sym (ap bytes_in rest)),
         left ∙ ap Some (sym (ap bytes_in left)),
         subst (λ b. IsReadAs bytes b (bytes_in (source_rest s))) (sym (ap bytes_in rest))
-            (subst (λ l. IsReadAs bytes gives.behind l) (sym (ap bytes_in left)) (settled_by bytes gives.front gives.behind since.given (text_behind s gives.behind) (text_behind s) gives.parts refl (settled gives.front gives.behind gives.text))),
+            (subst (λ l. IsReadAs bytes gives.behind l) (sym (ap bytes_in left)) (settled_by bytes gives.front gives.behind since.given (text_behind s gives.behind) (text_behind s) gives.parts refl (settled gives.front gives.behind gives.text) (source_ends s))),
       )
     where
       settled : (front behind : List ℕ)
@@ -118,6 +148,7 @@ module _ {I : Type 0} {g : Ghosts I} where
         left_is = ∥∥₁_elim since (same_bytes _ _) (λ w. (after_read told s w bytes is).2.left_is);
         settled = λ some more. ∥∥₁_elim since (same_bytes _ _) (λ w. (after_read told s w bytes is).2.settled some more);
         plain = λ same. ∥∥₁_elim since (fewer _ _) (λ w. (after_read told s w bytes is).2.plain same);
+        ended = λ none whole. ∥∥₁_elim since (same_bytes _ _) (λ w. (after_read told s w bytes is).2.ended none whole);
       },
     );
     faults_before = refl;

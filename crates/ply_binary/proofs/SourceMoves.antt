@@ -18,7 +18,7 @@ use Rattle.ply_binary.proofs.HeldBytes.{known_none}
 use Rattle.ply_binary.specs.HeldStates.{held, HoldsMore}
 use Rattle.ply_binary.specs.SourceStates.{left_by, text_behind, source_rest, IsBehindHead, SameLent, Moves}
 
-empty_parts : (xs ys : List ℕ) → [] ≡ xs ++ ys → (xs ≡ []) × (ys ≡ [])
+pub empty_parts : (xs ys : List ℕ) → [] ≡ xs ++ ys → (xs ≡ []) × (ys ≡ [])
 empty_parts [] ys is = (refl, sym is)
 empty_parts (x ∷ xs) ys is = absurd (cc is)
 

@@ -21,6 +21,7 @@ use Rattle.ply_binary.specs.HeaderTexts.{ascii}
 use Rattle.ply_binary.specs.SourceStates.{source_rest}
 use Rattle.ply_binary.specs.Since.{ReadsSince}
 use Rattle.ply_binary.specs.AsciiChanges.{bytes_in, IsReadAs, IsReadAsAscii}
+use Rattle.ply_binary.proofs.BodyEnds.{ascii_ends}
 use Rattle.ply_binary.proofs.Readings.{read_as_ascii}
 
 module _ {I : Type 0} {g : Ghosts I} where
@@ -83,6 +84,7 @@ kept_whole bytes = record {
   left_is = ap (λ n. drop n (ascii bytes)) all;
   settled = λ some more. ap (λ n. take n (ascii (take (length bytes - length bytes) bytes ++ more))) all ∙ sym (ap (λ n. take n (ascii bytes)) all);
   plain = λ same. omega (arith, ap length same);
+  ended = λ none one. ascii_ends bytes none;
 }
   where
     none : length bytes - length bytes ≡ 0
