@@ -7,20 +7,21 @@ _svo_options() {
     esac
 }
 
+# What the value of a command's option is.
 _svo_value() {
-    case $1 in
+    case "$1 $2" in
 @VALUES@
     esac
 }
 
-# The values that the words of an option may have, behind what stands there already.
+# The values that the words of a command's option may have, behind what stands there already.
 _svo_values() {
     local kind
-    kind=$(_svo_value "$1")
+    kind=$(_svo_value "$1" "$2")
     case $kind in
-    file) compopt -o filenames 2>/dev/null; COMPREPLY=($(compgen -f -- "$2")) ;;
-    folder) compopt -o filenames 2>/dev/null; COMPREPLY=($(compgen -d -- "$2")) ;;
-    words*) COMPREPLY=($(compgen -W "${kind#words }" -- "$2")) ;;
+    file) compopt -o filenames 2>/dev/null; COMPREPLY=($(compgen -f -- "$3")) ;;
+    folder) compopt -o filenames 2>/dev/null; COMPREPLY=($(compgen -d -- "$3")) ;;
+    words*) COMPREPLY=($(compgen -W "${kind#words }" -- "$3")) ;;
     esac
 }
 
@@ -44,11 +45,11 @@ _svo() {
     elif [[ $command == help ]]; then
         [[ $COMP_CWORD == 2 ]] && COMPREPLY=($(compgen -W '@COMMANDS@' -- "$here"))
     elif [[ $here == = ]]; then
-        _svo_values "$before" ''
+        _svo_values "$command" "$before" ''
     elif [[ $before == = ]]; then
-        _svo_values "${COMP_WORDS[COMP_CWORD - 2]}" "$here"
-    elif [[ $before == -* && $(_svo_value "$before") != none ]]; then
-        _svo_values "$before" "$here"
+        _svo_values "$command" "${COMP_WORDS[COMP_CWORD - 2]}" "$here"
+    elif [[ $before == -* && $(_svo_value "$command" "$before") != none ]]; then
+        _svo_values "$command" "$before" "$here"
     else
         COMPREPLY=($(compgen -W "$(_svo_left "$command" "$here")" -- "$here"))
     fi

@@ -92,6 +92,7 @@ hint_of_input() {
 hint_of_range() {
     case $said in
     'range: memory least '*) hint "the depth needs more: give --memory ${said##* } or more, up to 2147483648" ;;
+    'range: grids') hint "'svo info' tells the grid of each file: build both with the same --depth, --origin and --cell" ;;
     'range: wide') hint 'the cell times 2^depth is at most 4294967296: give a smaller --cell or --depth, or --fit' ;;
     'range: ray at '*) where=$(line_at "${said##* }") && hint "$where; an origin is at most 2^40, a direction at most 2^30 and not 0 0 0" ;;
     'range: point at '*) where=$(line_at "${said##* }") && hint "$where; a coordinate of a point is at most 2^40" ;;
@@ -120,10 +121,11 @@ hint_of_device() {
 }
 
 hint_of_nodes() {
-    file=$(value_of --nodes "$@")
-    case $said in
-    'nodes: no file') hint "there is no file ${file:-of this name}" ;;
-    'nodes: not a node file')
+    option=--${said%%:*}
+    file=$(value_of "$option" "$@")
+    case ${said#*: } in
+    'no file') hint "there is no file ${file:-of this name}" ;;
+    'not a node file')
         if [ -f "$file" ] && [ "$(head -c 3 "$file")" = ply ]; then
             hint "$file is a mesh: 'svo build .. < $file > octree.svo' makes a node file of it"
         else

@@ -10,5 +10,5 @@ mod Numbers
 mod OneGrid
 mod PieceCells
 mod Pieces
-mod Turns
+pub mod Turns
 mod ToMaps

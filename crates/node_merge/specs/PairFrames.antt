@@ -22,13 +22,17 @@ second_fault load.NoFile = NoSecond
 second_fault load.NotNodes = Second
 second_fault load.Failed = Failed
 
+-- a file has this frame, around at least one word
+abbrev pub HasFirstFrame : Option (List ℕ) → Frame → Type 0
+HasFirstFrame first frame = FindsFrame first (Ok frame) × (1 ≤ frame.totals.records)
+
 -- the answer where the frames of two files are looked at, of which these are the bytes, if there are such files
 abbrev pub FindsFrames : Option (List ℕ) → Option (List ℕ) → Result Frames PairFault → Type 0
 FindsFrames first second (Ok frames) = FindsFrame first (Ok frames.first) × FindsFrame second (Ok frames.second)
 FindsFrames first second (Err NoFirst) = first ≡ None
 FindsFrames first second (Err First) = (b : List ℕ) × (first ≡ Some b) × IsUnframed b
-FindsFrames first second (Err NoSecond) = (frame : Frame) × FindsFrame first (Ok frame) × (second ≡ None)
-FindsFrames first second (Err Second) = (frame : Frame) × FindsFrame first (Ok frame) × ((b : List ℕ) × (second ≡ Some b) × IsUnframed b)
+FindsFrames first second (Err NoSecond) = (frame : Frame) × HasFirstFrame first frame × (second ≡ None)
+FindsFrames first second (Err Second) = (frame : Frame) × HasFirstFrame first frame × ((b : List ℕ) × (second ≡ Some b) × IsUnframed b)
 FindsFrames first second (Err Failed) = ⊤
 
 -- the frame is within its limits, and a file of this name is long enough for it

@@ -5,6 +5,8 @@ pub mod WorkedWords
 pub mod MadeBlocks
 pub mod MadeSums
 pub mod OpenFileAnswers
+pub mod LoadedFiles
+pub mod MergedPairs
 pub mod NamedFileAnswers
 pub mod OneAnswer
 pub mod AsciiBuilds

@@ -104,6 +104,7 @@ module _ (lines_are_one : LinesHaveOneText) (views_are_one : ViewsAreOne) where
   same_works (question.Lines kind) bytes format grid cells text told put other status ends one two here there =
       same_lines (question.Lines kind) bytes text told put other status ends one two kind grid cells one.asks.ends two.asks.ends here there
   same_works (question.Slice axis at) bytes format grid cells text told put other status ends one two here there = same_text (question.Slice axis at) bytes text told put other status ends one two _ here there
+  same_works (question.Coarse levels) bytes format grid cells text told put other status ends one two here there = same_text (question.Coarse levels) bytes text told put other status ends one two _ here there
   same_works (question.View camera) bytes format grid cells text told put other status ends one two here there = same_view (question.View camera) bytes text told put other status ends one two camera grid cells here there
 
   pub one_answer : AnswersAreOne

@@ -1,12 +1,13 @@
 -- What a question answers of a loaded file, from what its parts gave.
-use Rattle.std.proofs.Common.{◌≡◌, ◌≢◌, ◌⊎◌, ℕ, suc, ◌*◌, ◌^◌, ◌≤◌, ◌<◌, Bool, true, false, List, [], ◌++◌, length, Option, None, Some, Result, Ok, Err, refl, sym, ap, subst, ◌∙◌, inl, inr, arith, IfErr}
-use Rattle.std.specs.Prelude.{◌&&◌, if◌then◌else◌, nat_lt, ℤ, pos, int_le, unsigned_abs, IfSome, drop}
+use Rattle.std.proofs.Common.{◌≡◌, ◌≢◌, ◌⊎◌, ℕ, zero, suc, ◌*◌, ◌^◌, ◌≤◌, ◌<◌, Bool, true, false, List, [], ◌++◌, length, Option, None, Some, Result, Ok, Err, refl, sym, ap, subst, ◌∙◌, inl, inr, arith, IfErr}
+use Rattle.std.specs.Prelude.{◌&&◌, if◌then◌else◌, nat_lt, ℤ, pos, negsuc, int_le, unsigned_abs, IfSome, drop}
 use Rattle.std.specs.Result.{result_err}
 use Rattle.std.proofs.lemmas.Bool.{and_parts}
 use Rattle.std.proofs.lemmas.Bool.Decides.{Decides-ltb}
 use Rattle.std.proofs.lemmas.List.{take_all, append-nil}
 use Rattle.std.specs.Io.KnownBytes.{append_known}
 use Rattle.svo_base.specs.GridShape.{GridShape}
+use Rattle.svo_base.specs.GridLimits.{is_positive}
 use Rattle.dev_traits.specs.Change.{Change, IsFaultless, IsFaulted, IsKept}
 use Rattle.dev_traits.specs.Faults.{Rose, DidNotRise}
 use Rattle.octree_specs.specs.Cells.{Cell}
@@ -49,9 +50,9 @@ use Rattle.svo_top.specs.declared.outcome.Status.TheVariants.{Done, Usage, Input
 use Rattle.svo_top.specs.declared.outcome.InputKind.{InputKind}
 use Rattle.svo_top.specs.declared.outcome.InputKind.TheVariants.{BadRay, BadPoint, LineTooLong, TooLong}
 use Rattle.svo_top.specs.declared.outcome.RangeFault.{RangeFault}
-use Rattle.svo_top.specs.declared.outcome.RangeFault.TheVariants.{Decimals, Grid, TooLarge, TooSmall, Triangle, Cube, Keep, Code, Made, Slice as BadSlice, View as BadView, Ray, Point}
+use Rattle.svo_top.specs.declared.outcome.RangeFault.TheVariants.{Decimals, Grid, TooLarge, TooSmall, Triangle, Cube, Keep, Code, Made, Slice as BadSlice, View as BadView, Ray, Point, Grids, Levels}
 use Rattle.svo_top.specs.declared.outcome.NodeRefusal.{NodeRefusal}
-use Rattle.svo_top.specs.declared.outcome.NodeRefusal.TheVariants.{NoFile, NotNodes, Number}
+use Rattle.svo_top.specs.declared.outcome.NodeRefusal.TheVariants.{NoFile, NotNodes, Number, WithNoFile, WithNotNodes, WithNumber}
 use Rattle.svo_top.specs.declared.outcome.Device.TheVariants.{Read, Scratch, Write, Nodes}
 
 -- ---- a text that is put out
@@ -114,6 +115,21 @@ passes false e = absurd cc
 pub layer_below : (axis : Axis) (at : ℤ) (depth : ℕ) → bar (question.Slice axis at) depth ≡ None → unsigned_abs at < 2 ^ depth
 layer_below axis at depth free =
     (Decides-ltb (unsigned_abs at) (2 ^ depth)).0 (and_parts (int_le (pos 0) at) (nat_lt (unsigned_abs at) (2 ^ depth)) (passes (int_le (pos 0) at && nat_lt (unsigned_abs at) (2 ^ depth)) free)).1
+
+-- a number of levels that is not barred is from 1 to one below the depth
+open_levels : (b : Bool) → (if b then None else Some Levels) ≡ None → b ≡ true
+open_levels true e = refl
+open_levels false e = absurd cc
+
+pub levels_within : (levels : ℤ) (depth : ℕ) → bar (question.Coarse levels) depth ≡ None → (1 ≤ unsigned_abs levels) × (unsigned_abs levels < depth)
+levels_within levels depth free =
+    let parts = and_parts (is_positive levels) (nat_lt (unsigned_abs levels) depth) (open_levels (is_positive levels && nat_lt (unsigned_abs levels) depth) free) in
+    (positive levels parts.0, (Decides-ltb (unsigned_abs levels) depth).0 parts.1)
+  where
+    positive : (z : ℤ) → is_positive z ≡ true → 1 ≤ unsigned_abs z
+    positive (pos zero) e = absurd cc
+    positive (pos (suc n)) e = omega arith
+    positive (negsuc n) e = absurd cc
 
 -- the numbers of a node file are those of its words and cells
 pub numbers_are : (file : FileView) (cells : List Cell) → IsFileView file → KeepsCells file cells
@@ -314,7 +330,7 @@ accepted_if_keeps file cells framed keeps =
 pub later_quiet : (before between after : ℕ) → before ≤ between → between ≤ after → DidNotRise before after → DidNotRise between after
 later_quiet before between after early late quiet = (omega (arith, early, quiet.0), quiet.1)
 
-answers_later : (text : List ℕ) (out : Change) (before between after : ℕ) (status : Status) → before ≤ between → between ≤ after → Answers text out between after status → Answers text out before after status
+pub answers_later : (text : List ℕ) (out : Change) (before between after : ℕ) (status : Status) → before ≤ between → between ≤ after → Answers text out between after status → Answers text out before after status
 answers_later text out before between after status early late answers = record {
   done = answers.done;
   front = answers.front;
@@ -328,6 +344,7 @@ works_later (question.Has code) format grid cells input out before between after
 works_later question.Cells format grid cells input out before between after status early late works = answers_later _ out before between after status early late works
 works_later question.Lift format grid cells input out before between after status early late works = answers_later _ out before between after status early late works
 works_later (question.Slice axis at) format grid cells input out before between after status early late works = answers_later _ out before between after status early late works
+works_later (question.Coarse levels) format grid cells input out before between after status early late works = answers_later _ out before between after status early late works
 works_later (question.View camera) format grid cells input out before between after status early late works = record {
   done = works.done;
   front = works.front;
@@ -346,7 +363,7 @@ nothing_put (Some bytes) = ap Some (append-nil bytes)
 
 -- nothing was put out, and the run is not done
 module _ (out : Change) (before after : ℕ) (unwritten : IsKept out) where
-  unanswered : (text : List ℕ) (status : Status) → (status ≡ Done → ⊥) → (IsFaultless out → DidNotRise before after → status ≡ Memory) → Answers text out before after status
+  pub unanswered : (text : List ℕ) (status : Status) → (status ≡ Done → ⊥) → (IsFaultless out → DidNotRise before after → status ≡ Memory) → Answers text out before after status
   unanswered text status undone memory = record {
     done = λ e. absurd (undone e);
     front = (0, unwritten.0 ∙ sym (nothing_put out.before));
@@ -378,6 +395,7 @@ module _ (out : Change) (before after : ℕ) (unwritten : IsKept out) where
   works_failed question.Cells format grid cells input unread rose = unanswered _ (Device Nodes) (λ e. cc) (λ a quiet. absurd (clash before after rose quiet))
   works_failed question.Lift format grid cells input unread rose = unanswered _ (Device Nodes) (λ e. cc) (λ a quiet. absurd (clash before after rose quiet))
   works_failed (question.Slice axis at) format grid cells input unread rose = unanswered _ (Device Nodes) (λ e. cc) (λ a quiet. absurd (clash before after rose quiet))
+  works_failed (question.Coarse levels) format grid cells input unread rose = unanswered _ (Device Nodes) (λ e. cc) (λ a quiet. absurd (clash before after rose quiet))
   works_failed (question.View camera) format grid cells input unread rose = unshown camera grid cells (Device Nodes) (λ e. cc) (λ quiet. absurd (clash before after rose quiet))
   works_failed (question.Lines kind) format grid cells input unread rose = record {
     answered = λ text told. none_answered grid cells (queries_of kind text).queries;
@@ -390,6 +408,7 @@ module _ (out : Change) (before after : ℕ) (unwritten : IsKept out) where
   works_memory question.Cells format grid cells input unread = unanswered _ Memory (λ e. cc) (λ a b. refl)
   works_memory question.Lift format grid cells input unread = unanswered _ Memory (λ e. cc) (λ a b. refl)
   works_memory (question.Slice axis at) format grid cells input unread = unanswered _ Memory (λ e. cc) (λ a b. refl)
+  works_memory (question.Coarse levels) format grid cells input unread = unanswered _ Memory (λ e. cc) (λ a b. refl)
   works_memory (question.View camera) format grid cells input unread = unshown camera grid cells Memory (λ e. cc) (λ quiet. refl)
   works_memory (question.Lines kind) format grid cells input unread = record { answered = λ text told. left_out kind grid cells (queries_of kind text).queries; complete = λ text told a b c. inr refl }
 
@@ -458,6 +477,8 @@ module _ (question : Question) (file : FileView) (framed : IsFileView file) (inp
       early BadView needs after = needs
       early (Ray place) needs after = needs
       early (Point place) needs after = needs
+      early Grids needs after = needs
+      early Levels needs after = after
 
       one_fault : (other : RangeFault) → Some fault ≡ Some other → fault ≡ other
       one_fault other same = cc
@@ -477,6 +498,9 @@ module _ (question : Question) (file : FileView) (framed : IsFileView file) (inp
   not_admitted (Refused NoFile) admits = absurd admits
   not_admitted (Refused NotNodes) admits = absurd admits
   not_admitted (Refused (Number number)) admits = refused_file number admits
+  not_admitted (Refused WithNoFile) admits = absurd admits
+  not_admitted (Refused WithNotNodes) admits = absurd admits
+  not_admitted (Refused (WithNumber number)) admits = absurd admits
   not_admitted Memory admits = absurd admits
 
 -- ---- a file that was admitted

@@ -7,13 +7,13 @@ use Rattle.svo_words.specs.Reading.{IsRead}
 use Rattle.svo_words.specs.declared.build.BuildWords.{BuildWords}
 use Rattle.svo_words.specs.declared.why.WhyWords.{WhyWords}
 use Rattle.svo_words.specs.declared.commands.Command.{Command}
-use Rattle.svo_words.specs.declared.commands.Command.TheVariants.{Build, Why, Check, Has, Cells, Lift, Cast, Slice, View, Make, Sum, Near}
+use Rattle.svo_words.specs.declared.commands.Command.TheVariants.{Build, Why, Check, Has, Cells, Lift, Cast, Slice, View, Make, Sum, Near, Merge, Coarse}
 use Rattle.svo_words.specs.declared.commands.WordFault.{WordFault}
 use Rattle.svo_words.specs.declared.commands.WordFault.TheVariants as word
 use Rattle.svo_words.proofs.Meanings.{one_meaning_is}
 use Rattle.svo_top.specs.FileQuestion.{Asks}
 use Rattle.svo_top.specs.Build.{BuildRun, Finished, IsUntouched}
-use Rattle.svo_top.specs.Commands.{MayBeLate, NamesNodes, ReadsInput, takes_memory}
+use Rattle.svo_top.specs.Commands.{takes_memory}
 use Rattle.svo_top.specs.CommandRuns.{Does, IsForgotten, QuestionRun}
 use Rattle.svo_top.specs.Lines.{Says, stop_line}
 use Rattle.svo_top.specs.Causes.{UsageCauses, RangeCauses, RefusalCauses, KeepsDevices}
@@ -258,6 +258,8 @@ module _ (input out : Change) (scratch : ScratchChange) (nodes : StoreChange) (e
   does_it (Cast words) carries_out = run_of_question _ words.nodes _ input out scratch nodes err ending carries_out.0 carries_out.1 silent
   does_it (Near words) carries_out = run_of_question _ words.nodes _ input out scratch nodes err ending carries_out.0 carries_out.1 silent
   does_it (Slice words) carries_out = run_of_question _ words.nodes _ input out scratch nodes err ending carries_out.0 carries_out.1 silent
+  does_it (Coarse words) carries_out = run_of_question _ words.nodes None input out scratch nodes err ending carries_out.0 carries_out.1 silent
+  does_it (Merge words) carries_out = record { merges = carries_out.1; unread = carries_out.2; unspilled = carries_out.3; silent = λ e. silent (quiet_line ending carries_out.0 e) }
   does_it (View words) carries_out = record { asks = carries_out.0.asks; unspilled = carries_out.1; silent = λ e. silent (quiet_line ending carries_out.0.quiet e) }
   does_it (Make words) carries_out = (record { means = carries_out.1; unread = carries_out.2; unspilled = carries_out.3; silent = λ e. silent (no_line ending carries_out.0 e) }, carries_out.4)
   does_it (Sum words) carries_out = (record { means = carries_out.1; unread = carries_out.2; silent = λ e. silent (sum_line_none ending carries_out.0 e) }, carries_out.3)

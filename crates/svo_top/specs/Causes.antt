@@ -5,7 +5,7 @@ use Rattle.svo_words.specs.Meaning.{Means}
 use Rattle.svo_words.specs.declared.commands.Command.{Command}
 use Rattle.svo_words.specs.declared.commands.WordFault.{WordFault}
 use Rattle.svo_top.specs.Build.{IsUntouched}
-use Rattle.svo_top.specs.Commands.{MayBeLate, NamesNodes, ReadsInput, takes_memory}
+use Rattle.svo_top.specs.Commands.{MayBeLate, MayRefuseNodes, ReadsInput, takes_memory}
 use Rattle.svo_top.specs.Ranges.{range_of}
 use Rattle.svo_top.specs.Lines.{Says, stop_line}
 use Rattle.svo_top.specs.Usage.{fault_of}
@@ -31,10 +31,10 @@ pub record RangeCauses (words : List (List ℕ)) (status : Status) : Type 0 wher
       → (status ≡ Range fault) ⊎ (status ≡ Memory)
   pub only : (fault : RangeFault) → status ≡ Range fault → (command : Command) × Means words (Ok command) × ((range_of command ≡ Some fault) ⊎ MayBeLate command fault)
 
--- an input is refused by commands that read it alone, and a node file by those that name one
+-- an input is refused by commands that read it alone, and a node file by those that name one, a second one by the command that names two
 pub record RefusalCauses (words : List (List ℕ)) (status : Status) : Type 0 where
   pub input : (kind : InputKind) (place : ℕ) → status ≡ Input kind place → (command : Command) × Means words (Ok command) × ReadsInput command
-  pub nodes : (refusal : NodeRefusal) → status ≡ Refused refusal → (command : Command) × Means words (Ok command) × NamesNodes command
+  pub nodes : (refusal : NodeRefusal) → status ≡ Refused refusal → (command : Command) × Means words (Ok command) × MayRefuseNodes command refusal
 
 -- a device is named only where its count of faults rose in this run
 abbrev pub DeviceCause : {Told : Type 0} → DeviceName → ChangeOf Told → Status → Type 0

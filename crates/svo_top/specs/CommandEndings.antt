@@ -3,16 +3,17 @@ use Rattle.std.specs.Prelude.{◌≡◌, ◌≢◌, ◌⊎◌, ℕ, false, List,
 use Rattle.std.specs.Result.{result_err}
 use Rattle.dev_traits.specs.Change.{Change, ScratchChange, StoreChange, IsFaulted, IsKept, IsScratchKept}
 use Rattle.svo_words.specs.declared.commands.Command.{Command}
-use Rattle.svo_words.specs.declared.commands.Command.TheVariants.{Build, Why, Check, Has, Cells, Lift, Cast, Slice, View, Make, Sum, Near}
+use Rattle.svo_words.specs.declared.commands.Command.TheVariants.{Build, Why, Check, Has, Cells, Lift, Cast, Slice, View, Make, Sum, Near, Merge, Coarse}
 use Rattle.ray_answers.specs.declared.queries.QueryKind.TheVariants.{Rays, Points}
-use Rattle.svo_top.specs.FileQuestion.{Asks, IsLate, MayRefuse, takes_memory as takes_memory_to_ask}
+use Rattle.svo_top.specs.FileQuestion.{Asks, IsLate, IsOfOneFile, MayRefuse, takes_memory as takes_memory_to_ask}
 use Rattle.svo_top.specs.Build.{IsUntouched}
-use Rattle.svo_top.specs.Commands.{NamesNodes, ReadsInput, MayBeLate, takes_memory}
+use Rattle.svo_top.specs.Commands.{MayRefuseNodes, ReadsInput, MayBeLate, takes_memory}
 use Rattle.svo_top.specs.Endings.{status_of, BuildEnds, EndsWhy, EndsQuietly}
 use Rattle.slice_view.specs.Cameras.{CameraShape}
 use Rattle.svo_words.specs.declared.pictures.ViewWords.{ViewWords}
 use Rattle.svo_top.specs.Picturing.{axis_from, camera_of}
 use Rattle.svo_top.specs.Make.{MakeMeans}
+use Rattle.svo_top.specs.Merging.{Merges}
 use Rattle.svo_top.specs.Sum.{EndsSum, SumMeans}
 use Rattle.svo_top.specs.Ranges.{RangeIs, range_of, range_of_keep}
 use Rattle.svo_top.specs.Why.{WhyMeans}
@@ -47,6 +48,8 @@ CarriesOut (Lift words) input out scratch nodes ending = CarriesOutQuestion ques
 CarriesOut (Cast words) input out scratch nodes ending = CarriesOutQuestion (question.Lines Rays) words.nodes (range_of_keep words.keep) input out nodes ending × IsScratchKept scratch
 CarriesOut (Near words) input out scratch nodes ending = CarriesOutQuestion (question.Lines Points) words.nodes (range_of_keep words.keep) input out nodes ending × IsScratchKept scratch
 CarriesOut (Slice words) input out scratch nodes ending = CarriesOutQuestion (question.Slice (axis_from words.axis) words.at) words.nodes (range_of_keep words.keep) input out nodes ending × IsScratchKept scratch
+CarriesOut (Coarse words) input out scratch nodes ending = CarriesOutQuestion (question.Coarse words.levels) words.nodes None input out nodes ending × IsScratchKept scratch
+CarriesOut (Merge words) input out scratch nodes ending = EndsQuietly ending × Merges words out nodes (status_of ending) × IsKept input × IsScratchKept scratch
 CarriesOut (View words) input out scratch nodes ending = CarriesOutView words input out nodes ending × IsScratchKept scratch
 CarriesOut (Make words) input out scratch nodes ending = EndsWhy ending × MakeMeans words out (status_of ending) × IsKept input × IsScratchKept scratch × IsKept nodes
 CarriesOut (Sum words) input out scratch nodes ending = EndsSum ending × SumMeans words out scratch (status_of ending) × IsKept input × IsKept nodes
@@ -59,7 +62,7 @@ pub record Stops (command : Command) (input out : Change) (scratch : ScratchChan
   pub unmoved : (fault : RangeFault) → range_of command ≡ Some fault → IsUntouched input out scratch × IsKept nodes
   pub memory : takes_memory command ≡ false → status ≡ Memory → IsUntouched input out scratch
   pub unspilled : status ≡ Memory → IsScratchKept scratch
-  pub refused : (refusal : NodeRefusal) → status ≡ Refused refusal → NamesNodes command
+  pub refused : (refusal : NodeRefusal) → status ≡ Refused refusal → MayRefuseNodes command refusal
   pub reads : (kind : InputKind) (place : ℕ) → status ≡ Input kind place → ReadsInput command
 
 -- the same of a question
@@ -69,6 +72,7 @@ pub record StopsQuestion (question : Question) (range : Option RangeFault) (inpu
   pub only : (fault : RangeFault) → status ≡ Range fault → (range ≡ Some fault) ⊎ IsLate question fault
   pub unmoved : (fault : RangeFault) → range ≡ Some fault → IsKept input × IsKept out × IsKept nodes
   pub memory : takes_memory_to_ask question ≡ false → status ≡ Memory → IsKept input × IsKept out
+  pub refused : (refusal : NodeRefusal) → status ≡ Refused refusal → IsOfOneFile refusal
   pub reads : (kind : InputKind) (place : ℕ) → status ≡ Input kind place → MayRefuse question kind
 
 -- the same of a view
@@ -78,5 +82,5 @@ pub record StopsView (words : ViewWords) (input out : Change) (nodes : StoreChan
   pub only : (fault : RangeFault) → status ≡ Range fault → result_err (camera_of (range_of_keep words.keep) words) ≡ Some fault
   pub unmoved : (fault : RangeFault) → result_err (camera_of (range_of_keep words.keep) words) ≡ Some fault → IsKept input × IsKept out × IsKept nodes
   pub memory : status ≡ Memory → IsKept input × IsKept out
-  pub refused : (refusal : NodeRefusal) → status ≡ Refused refusal → (camera : CameraShape) × (camera_of (range_of_keep words.keep) words ≡ Ok camera)
+  pub refused : (refusal : NodeRefusal) → status ≡ Refused refusal → (camera : CameraShape) × (camera_of (range_of_keep words.keep) words ≡ Ok camera) × IsOfOneFile refusal
   pub reads : (kind : InputKind) (place : ℕ) → status ≡ Input kind place → ⊥

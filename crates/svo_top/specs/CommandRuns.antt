@@ -2,14 +2,16 @@
 use Rattle.std.specs.Prelude.{◌≡◌, ℕ, List, Option, None, Ok}
 use Rattle.dev_traits.specs.Change.{Change, ScratchChange, StoreChange, IsKept, IsScratchKept}
 use Rattle.svo_words.specs.declared.commands.Command.{Command}
-use Rattle.svo_words.specs.declared.commands.Command.TheVariants.{Build, Why, Check, Has, Cells, Lift, Cast, Slice, View, Make, Sum, Near}
+use Rattle.svo_words.specs.declared.commands.Command.TheVariants.{Build, Why, Check, Has, Cells, Lift, Cast, Slice, View, Make, Sum, Near, Merge, Coarse}
 use Rattle.ray_answers.specs.declared.queries.QueryKind.TheVariants.{Rays, Points}
 use Rattle.svo_top.specs.FileQuestion.{Asks}
 use Rattle.svo_top.specs.Build.{BuildRun, IsUntouched}
 use Rattle.slice_view.specs.Cameras.{CameraShape}
+use Rattle.svo_words.specs.declared.combining.MergeWords.{MergeWords}
 use Rattle.svo_words.specs.declared.pictures.ViewWords.{ViewWords}
 use Rattle.svo_top.specs.Picturing.{axis_from, camera_of}
 use Rattle.svo_top.specs.Make.{MakeRun}
+use Rattle.svo_top.specs.Merging.{Merges}
 use Rattle.svo_top.specs.Sum.{SumRun}
 use Rattle.svo_top.specs.Ranges.{range_of_keep}
 use Rattle.svo_top.specs.Why.{WhyRun}
@@ -31,6 +33,13 @@ pub record ViewRun (words : ViewWords) (input out : Change) (scratch : ScratchCh
   pub unspilled : IsScratchKept scratch
   pub silent : status ≡ Done → IsKept err
 
+-- a merge reads no input and keeps nothing on scratch, and has no line where it is done
+pub record MergeRun (words : MergeWords) (input out : Change) (scratch : ScratchChange) (nodes : StoreChange) (err : Change) (status : Status) : Type 0 where
+  pub merges : Merges words out nodes status
+  pub unread : IsKept input
+  pub unspilled : IsScratchKept scratch
+  pub silent : status ≡ Done → IsKept err
+
 -- memory ran out while the words were read, and no device was touched
 pub record IsForgotten (input out : Change) (scratch : ScratchChange) (nodes : StoreChange) (status : Status) : Type 0 where
   pub memory : status ≡ Memory
@@ -48,6 +57,8 @@ Does (Lift words) input out scratch nodes err status = QuestionRun question.Lift
 Does (Cast words) input out scratch nodes err status = QuestionRun (question.Lines Rays) words.nodes (range_of_keep words.keep) input out scratch nodes err status
 Does (Near words) input out scratch nodes err status = QuestionRun (question.Lines Points) words.nodes (range_of_keep words.keep) input out scratch nodes err status
 Does (Slice words) input out scratch nodes err status = QuestionRun (question.Slice (axis_from words.axis) words.at) words.nodes (range_of_keep words.keep) input out scratch nodes err status
+Does (Coarse words) input out scratch nodes err status = QuestionRun (question.Coarse words.levels) words.nodes None input out scratch nodes err status
+Does (Merge words) input out scratch nodes err status = MergeRun words input out scratch nodes err status
 Does (View words) input out scratch nodes err status = ViewRun words input out scratch nodes err status
 Does (Make words) input out scratch nodes err status = MakeRun words input out scratch err status × IsKept nodes
 Does (Sum words) input out scratch nodes err status = SumRun words input out scratch err status × IsKept nodes

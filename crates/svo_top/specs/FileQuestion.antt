@@ -9,6 +9,7 @@ use Rattle.octree_specs.specs.OctreeFile.{image_of}
 use Rattle.node_check.specs.Stops.{PutsFront}
 use Rattle.node_check.specs.Walks.{face_at}
 use Rattle.node_file.specs.FileView.{FileView}
+use Rattle.node_merge.specs.Combined.{coarse, coarse_grid}
 use Rattle.cell_lists.specs.Lists.{cells_text}
 use Rattle.svo_top.specs.FileAnswers.{bar, check_line, has_line}
 use Rattle.slice_view.specs.Slices.{slice_picture}
@@ -22,12 +23,12 @@ use Rattle.svo_top.specs.NodeFiles.{Tells, IsRefusedFor, Keeps, KeepsCells, refu
 use Rattle.svo_top.specs.declared.outcome.Status.{Status}
 use Rattle.svo_top.specs.declared.outcome.Status.TheVariants.{Done, Usage, Input, Range, Device, Refused, Memory}
 use Rattle.svo_top.specs.declared.outcome.RangeFault.{RangeFault}
-use Rattle.svo_top.specs.declared.outcome.RangeFault.TheVariants.{Decimals, Grid, TooLarge, TooSmall, Triangle, Cube, Keep, Code, Made, Slice as BadSlice, View as BadView, Ray, Point}
+use Rattle.svo_top.specs.declared.outcome.RangeFault.TheVariants.{Decimals, Grid, TooLarge, TooSmall, Triangle, Cube, Keep, Code, Made, Slice as BadSlice, View as BadView, Ray, Point, Levels}
 use Rattle.svo_top.specs.declared.outcome.NodeRefusal.{NodeRefusal}
-use Rattle.svo_top.specs.declared.outcome.NodeRefusal.TheVariants.{Number}
+use Rattle.svo_top.specs.declared.outcome.NodeRefusal.TheVariants.{NoFile, NotNodes, Number}
 use Rattle.svo_top.specs.declared.outcome.Device.TheVariants.{Read, Scratch, Write, Nodes}
 use Rattle.svo_top.specs.declared.file_question.Question.{Question}
-use Rattle.svo_top.specs.declared.file_question.Question.TheVariants.{Check, Has, Cells, Lift, Lines, Slice, View}
+use Rattle.svo_top.specs.declared.file_question.Question.TheVariants.{Check, Has, Cells, Lift, Lines, Slice, View, Coarse}
 
 -- ---- the work over a node file
 
@@ -46,6 +47,8 @@ Works Lift format grid cells input out before after status = Answers (image_of 2
 Works (Lines kind) format grid cells input out before after status = AnswersInput kind grid cells input out before after status
 Works (Slice axis at) format grid cells input out before after status = Answers (slice_picture grid.depth axis (unsigned_abs at) cells) out before after status
 Works (View camera) format grid cells input out before after status = Views camera grid cells out before after status
+Works (Coarse levels) format grid cells input out before after status =
+    Answers (image_of 2 (coarse_grid (unsigned_abs levels) grid) (coarse (unsigned_abs levels) grid.depth cells)) out before after status
 
 -- ---- how a question may end, whatever the file
 
@@ -58,6 +61,7 @@ Reads Lift input status = IsKept input
 Reads (Lines kind) input status = ReadsLines kind input status
 Reads (Slice axis at) input status = IsKept input
 Reads (View camera) input status = IsKept input
+Reads (Coarse levels) input status = IsKept input
 
 -- a range that is tested once the file is loaded
 abbrev pub IsLate : Question → RangeFault → Type 0
@@ -65,12 +69,14 @@ IsLate (Has code) Code = ⊤
 IsLate (Lines kind) (Ray place) = kind ≡ Rays
 IsLate (Lines kind) (Point place) = kind ≡ Points
 IsLate (Slice axis at) BadSlice = ⊤
+IsLate (Coarse levels) Levels = ⊤
 IsLate question fault = ⊥
 
 -- that one of them needs the file's grid
 abbrev pub NeedsGrid : RangeFault → Type 0
 NeedsGrid Code = ⊤
 NeedsGrid BadSlice = ⊤
+NeedsGrid Levels = ⊤
 NeedsGrid fault = ⊥
 
 abbrev pub ReadsInput : Question → Type 0
@@ -95,6 +101,7 @@ takes_memory Cells = false
 takes_memory Lift = false
 takes_memory (Slice axis at) = false
 takes_memory (View camera) = false
+takes_memory (Coarse levels) = false
 
 -- the words of the file are read by blocks that are kept, for which there may be no memory
 abbrev pub keeps_blocks : Question → Bool
@@ -105,6 +112,14 @@ keeps_blocks Lift = false
 keeps_blocks (Lines kind) = true
 keeps_blocks (Slice axis at) = true
 keeps_blocks (View camera) = true
+keeps_blocks (Coarse levels) = false
+
+-- what is refused is the one file that is asked about
+abbrev pub IsOfOneFile : NodeRefusal → Type 0
+IsOfOneFile NoFile = ⊤
+IsOfOneFile NotNodes = ⊤
+IsOfOneFile (Number number) = ⊤
+IsOfOneFile refusal = ⊥
 
 abbrev pub MayEnd : Question → Status → Type 0
 MayEnd question Done = ⊤
@@ -115,7 +130,7 @@ MayEnd question (Device Read) = ReadsInput question
 MayEnd question (Device Scratch) = ⊥
 MayEnd question (Device Write) = ⊤
 MayEnd question (Device Nodes) = ⊤
-MayEnd question (Refused refusal) = ⊤
+MayEnd question (Refused refusal) = IsOfOneFile refusal
 MayEnd question Memory = keeps_blocks question ≡ true
 
 -- a question ends so; a device is named only where its count of faults rose; where memory runs out that is not taken while it is answered, nothing was read or put out, nor was anything put out where a number is out of the file's grid

@@ -13,6 +13,7 @@ pub mod Laws
 pub mod Lines
 pub mod Loaded
 pub mod Make
+pub mod Merging
 pub mod NodeFiles
 pub mod Picturing
 pub mod Ranges

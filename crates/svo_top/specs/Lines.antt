@@ -13,11 +13,11 @@ use Rattle.svo_top.specs.declared.outcome.UsageKind.TheVariants.{Command, Option
 use Rattle.svo_top.specs.declared.outcome.InputKind.{InputKind}
 use Rattle.svo_top.specs.declared.outcome.InputKind.TheVariants.{Ply, BadRay, BadPoint, LineTooLong, TooLong}
 use Rattle.svo_top.specs.declared.outcome.RangeFault.{RangeFault}
-use Rattle.svo_top.specs.declared.outcome.RangeFault.TheVariants.{Decimals, Grid, TooLarge, TooSmall, Triangle, Cube, Keep, Code, Made, Slice, View, Ray, Point}
+use Rattle.svo_top.specs.declared.outcome.RangeFault.TheVariants.{Decimals, Grid, TooLarge, TooSmall, Triangle, Cube, Keep, Code, Made, Slice, View, Ray, Point, Grids, Levels}
 use Rattle.svo_top.specs.declared.outcome.Device.{Device as DeviceName}
 use Rattle.svo_top.specs.declared.outcome.Device.TheVariants.{Read, Scratch, Write, Nodes}
 use Rattle.svo_top.specs.declared.outcome.NodeRefusal.{NodeRefusal}
-use Rattle.svo_top.specs.declared.outcome.NodeRefusal.TheVariants.{NoFile, NotNodes, Number}
+use Rattle.svo_top.specs.declared.outcome.NodeRefusal.TheVariants.{NoFile, NotNodes, Number, WithNoFile, WithNotNodes, WithNumber}
 
 abbrev pub usage_word : UsageKind → List ℕ
 usage_word Command = codes "command"
@@ -71,6 +71,8 @@ range_word Slice = codes "slice"
 range_word View = codes "view"
 range_word (Ray place) = codes "ray at " ++ decimal place
 range_word (Point place) = codes "point at " ++ decimal place
+range_word Grids = codes "grids"
+range_word Levels = codes "levels"
 
 abbrev pub device_word : DeviceName → List ℕ
 device_word Read = codes "read"
@@ -78,10 +80,22 @@ device_word Scratch = codes "scratch"
 device_word Write = codes "write"
 device_word Nodes = codes "nodes"
 
+-- the option that names the refused file
+abbrev pub refusal_side : NodeRefusal → List ℕ
+refusal_side NoFile = codes "nodes: "
+refusal_side NotNodes = codes "nodes: "
+refusal_side (Number number) = codes "nodes: "
+refusal_side WithNoFile = codes "with: "
+refusal_side WithNotNodes = codes "with: "
+refusal_side (WithNumber number) = codes "with: "
+
 abbrev pub refusal_word : NodeRefusal → List ℕ
 refusal_word NoFile = codes "no file"
 refusal_word NotNodes = codes "not a node file"
 refusal_word (Number number) = codes "number " ++ decimal number ++ codes " refused"
+refusal_word WithNoFile = codes "no file"
+refusal_word WithNotNodes = codes "not a node file"
+refusal_word (WithNumber number) = codes "number " ++ decimal number ++ codes " refused"
 
 -- the line of a run that stopped; a run that is done has a line of its command's own, or none
 unfoldable pub stop_line : Status → List ℕ
@@ -90,7 +104,7 @@ stop_line (Usage kind) = codes "usage: " ++ usage_word kind ++ codes "\n"
 stop_line (Input kind place) = codes "input: " ++ input_word kind ++ codes " at " ++ decimal place ++ codes "\n"
 stop_line (Range fault) = codes "range: " ++ range_word fault ++ codes "\n"
 stop_line (Device device) = codes "device: " ++ device_word device ++ codes "\n"
-stop_line (Refused refusal) = codes "nodes: " ++ refusal_word refusal ++ codes "\n"
+stop_line (Refused refusal) = refusal_side refusal ++ refusal_word refusal ++ codes "\n"
 stop_line Memory = codes "memory\n"
 
 -- the line of a finished build

@@ -11,7 +11,7 @@ use Rattle.node_file.specs.FileView.{FileView}
 use Rattle.node_file.specs.Loading.{IsUnframed}
 use Rattle.node_file.specs.Stored.{AreBytes}
 use Rattle.svo_top.specs.declared.outcome.NodeRefusal.{NodeRefusal}
-use Rattle.svo_top.specs.declared.outcome.NodeRefusal.TheVariants.{NoFile, NotNodes, Number}
+use Rattle.svo_top.specs.declared.outcome.NodeRefusal.TheVariants.{NoFile, NotNodes, Number, WithNoFile, WithNotNodes, WithNumber}
 
 -- the store tells that the file of this name has these bytes, or that there is none
 pub record Tells (nodes : StoreChange) (name : List ℕ) (bytes : Option (List ℕ)) : Type 0 where
@@ -29,11 +29,14 @@ pub record IsRefusedAt (number : ℕ) (bytes : List ℕ) : Type 0 where
   pub framed : IsFramed format grid words cells bytes
   pub refused : refused_in format grid.depth words cells ≡ Some number
 
--- why a named file is no node file
+-- why a named file is no node file; what is said of the second of two files comes of no single one
 abbrev pub IsRefusedFor : NodeRefusal → Option (List ℕ) → Type 0
 IsRefusedFor NoFile bytes = bytes ≡ None
 IsRefusedFor NotNodes bytes = (b : List ℕ) × (bytes ≡ Some b) × IsUnframed b
 IsRefusedFor (Number number) bytes = (b : List ℕ) × (bytes ≡ Some b) × IsRefusedAt number b
+IsRefusedFor WithNoFile bytes = ⊥
+IsRefusedFor WithNotNodes bytes = ⊥
+IsRefusedFor (WithNumber number) bytes = ⊥
 
 -- the named file is the node file, in this format, of this grid and these cells
 pub record Keeps (bytes : Option (List ℕ)) (format : ℕ) (grid : GridShape) (cells : List Cell) : Type 0 where

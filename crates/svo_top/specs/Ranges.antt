@@ -7,7 +7,7 @@ use Rattle.svo_base.specs.declared.grids.GridFault.{GridFault}
 use Rattle.svo_base.specs.declared.grids.GridFault.TheVariants.{Depth}
 use Rattle.svo_base.specs.declared.grids.TheConstants.{MAX_DEPTH}
 use Rattle.svo_words.specs.declared.commands.Command.{Command}
-use Rattle.svo_words.specs.declared.commands.Command.TheVariants.{Build, Why, Check, Has, Cells, Lift, Cast, Slice, View, Make, Sum, Near}
+use Rattle.svo_words.specs.declared.commands.Command.TheVariants.{Build, Why, Check, Has, Cells, Lift, Cast, Slice, View, Make, Sum, Near, Merge, Coarse}
 use Rattle.svo_words.specs.declared.build.BuildWords.{BuildWords}
 use Rattle.svo_words.specs.declared.made.MakeWords.{MakeWords}
 use Rattle.svo_words.specs.declared.made.SumWords.{SumWords}
@@ -126,6 +126,8 @@ range_of (Cast words) = range_of_keep words.keep
 range_of (Near words) = range_of_keep words.keep
 range_of (Slice words) = range_of_keep words.keep
 range_of (View words) = result_err (camera_of (range_of_keep words.keep) words)
+range_of (Merge words) = None
+range_of (Coarse words) = None
 range_of (Make words) = range_of_make words
 range_of (Sum words) = range_of_sum words
 

@@ -35,6 +35,8 @@ pub enum Question {
     Slice(Axis, i64),
     /// The picture that a camera takes of its cells.
     View(Camera),
+    /// What the file of its cells is with so many levels less.
+    Coarse(i64),
 }
 
 impl Question {
@@ -46,7 +48,7 @@ impl Question {
             Question::Cells | Question::Lines(_) | Question::Slice(..) | Question::View(_) => {
                 true
             }
-            Question::Check | Question::Has(_) | Question::Lift => false,
+            Question::Check | Question::Has(_) | Question::Lift | Question::Coarse(_) => false,
         }
     }
 }

@@ -3,6 +3,7 @@
 
 mod building;
 mod checking;
+mod coarsening;
 mod explaining;
 mod file_commands;
 mod file_question;
@@ -12,6 +13,7 @@ mod laws;
 mod lifting;
 mod making;
 mod membership;
+mod merging;
 mod nowhere;
 mod open_file;
 mod outcome;

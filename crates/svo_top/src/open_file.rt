@@ -5,7 +5,7 @@ ghost use Rattle.dev_traits.specs.Change.{change_of};
 ghost use Rattle.octree_specs.specs.Cells.{Cell};
 ghost use Rattle.svo_base.specs.declared.grids.TheConstants.{MAX_DEPTH};
 ghost use Rattle.node_file.specs.FileView.{IsFileView};
-ghost use Rattle.svo_top.specs.FileAnswers.{bar, is_code};
+ghost use Rattle.svo_top.specs.FileAnswers.{bar, is_code, is_coarser};
 ghost use Rattle.svo_top.specs.FileQuestion.{Ends, Works, IsLate, NeedsGrid, Admits, takes_memory};
 ghost use Rattle.svo_top.specs.Picturing.{is_layer};
 ghost use Rattle.svo_top.specs.Loaded.{status_of_answer};
@@ -15,6 +15,7 @@ ghost use Rattle.svo_top.specs.declared.outcome.RangeFault.{RangeFault};
 ghost use Rattle.svo_top.specs.declared.outcome.NodeRefusal.{NodeRefusal};
 
 use crate::checking::tell_numbers;
+use crate::coarsening::put_coarse;
 use crate::file_question::Question;
 use crate::input_lines::status_of_lines;
 use crate::lifting::put_lifted;
@@ -78,6 +79,13 @@ fn bar(question: &Question, depth: u32) -> Option<RangeFault>
                 Some(RangeFault::Slice)
             }
         }
+        Question::Coarse(levels) => {
+            if is_coarser(levels, depth) {
+                None
+            } else {
+                Some(RangeFault::Levels)
+            }
+        }
         Question::Check
         | Question::Cells
         | Question::Lift
@@ -115,6 +123,13 @@ fn place(at: &i64) -> u32
     ensures { result ≡ unsigned_abs at.now }
 {
     at.unsigned_abs() as u32
+}
+
+/// Whether a grid of this depth can lose so many levels and keep one.
+fn is_coarser(levels: &i64, depth: u32) -> bool
+    ensures { result ≡ is_coarser levels.now depth }
+{
+    *levels >= 1 && levels.unsigned_abs() < u64::from(depth)
 }
 
 /// How many layers of cells a grid of this depth has.
@@ -172,11 +187,12 @@ pub fn answer<I: ByteSource, O: ByteSink, R: Records, L: Ledger>(
             status_of_answer(slice(nodes, *axis, place(at), out, reads))
         }
         Question::View(camera) => status_of_answer(view(nodes, camera, out, reads)),
+        Question::Coarse(levels) => status_of_answer(put_coarse(nodes, place(levels), out)),
     }
 }
 
 /// How a run ends whose answer is put out so.
-fn status_of_answer(answer: Result<(), AnswerStop>) -> Status
+pub fn status_of_answer(answer: Result<(), AnswerStop>) -> Status
     ensures { result ≡ status_of_answer answer }
 {
     match answer {

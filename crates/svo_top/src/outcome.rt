@@ -80,6 +80,10 @@ pub enum RangeFault {
     Ray(u64),
     /// A point is out of its limits. The place is the number of bytes before its line.
     Point(u64),
+    /// The two files have not one grid.
+    Grids,
+    /// The number of levels is not from 1 to one below the depth of the file's grid.
+    Levels,
 }
 
 /// Which device failed.
@@ -105,6 +109,12 @@ pub enum NodeRefusal {
     /// It is framed, and its words are those of no cells. The number is that of the first word that
     /// does not fit, from the root down, or the number behind the last one for the trailer.
     Number(u64),
+    /// No file has the name of the second file.
+    WithNoFile,
+    /// The second file is not framed as a node file is.
+    WithNotNodes,
+    /// The second file is framed, and its words are those of no cells, with the number as of the first.
+    WithNumber(u64),
 }
 
 impl Status {

@@ -3,7 +3,7 @@
 ghost use Rattle.std.specs.Prelude.{◌≡◌, [], ◌≤◌, ◌+◌, ◌++◌, length, codes, decimal};
 ghost use Rattle.arrayvec.specs.ArrayString.{array_string_len};
 ghost use Rattle.dev_traits.specs.Change.{change_of, IsKept};
-ghost use Rattle.svo_top.specs.Lines.{usage_word, input_word, ply_word, grid_word, range_word, device_word, refusal_word, stop_line, built_line, Says};
+ghost use Rattle.svo_top.specs.Lines.{usage_word, input_word, ply_word, grid_word, range_word, device_word, refusal_side, refusal_word, stop_line, built_line, Says};
 ghost use Rattle.svo_top.specs.Endings.{line_of, status_of};
 
 use crate::outcome::{Device, InputKind, NodeRefusal, RangeFault, Status, UsageKind};
@@ -217,6 +217,8 @@ fn range_line(fault: RangeFault) -> Line
             line.push_str("point at ");
             push_number(&mut line, place);
         }
+        RangeFault::Grids => line.push_str("grids"),
+        RangeFault::Levels => line.push_str("levels"),
     }
     line.push_str("\n");
     line
@@ -248,19 +250,40 @@ fn device_word(device: Device) -> &'static str
 
 /// The line of a named file that is no node file.
 fn refusal_line(refusal: NodeRefusal) -> Line
-    ensures { result.bytes ≡ codes "nodes: " ++ refusal_word refusal ++ codes "\n" }
+    ensures { result.bytes ≡ refusal_side refusal ++ refusal_word refusal ++ codes "\n" }
 {
     let mut line = Line::new();
-    line.push_str("nodes: ");
+    line.push_str(refusal_side(refusal));
     match refusal {
-        NodeRefusal::NoFile => line.push_str("no file"),
-        NodeRefusal::NotNodes => line.push_str("not a node file"),
-        NodeRefusal::Number(number) => {
-            line.push_str("number ");
-            push_number(&mut line, number);
-            line.push_str(" refused");
-        }
+        NodeRefusal::NoFile | NodeRefusal::WithNoFile => line.push_str("no file"),
+        NodeRefusal::NotNodes | NodeRefusal::WithNotNodes => line.push_str("not a node file"),
+        NodeRefusal::Number(number) => push_refused(&mut line, number),
+        NodeRefusal::WithNumber(number) => push_refused(&mut line, number),
     }
     line.push_str("\n");
     line
+}
+
+/// Adds the number of a refused word.
+fn push_refused(line: &mut Line, number: u64)
+    requires { array_string_len line.old + 35 ≤ 96 }
+    ensures text { line.new.bytes ≡ line.old.bytes ++ (codes "number " ++ decimal number ++ codes " refused") }
+    ensures length { array_string_len line.new ≤ array_string_len line.old + 35 }
+{
+    line.push_str("number ");
+    push_number(line, number);
+    line.push_str(" refused");
+}
+
+/// The option that names the refused file.
+fn refusal_side(refusal: NodeRefusal) -> &'static str
+    ensures word { result.now ≡ refusal_side refusal }
+    ensures short { length result.now ≤ 32 }
+{
+    match refusal {
+        NodeRefusal::NoFile | NodeRefusal::NotNodes | NodeRefusal::Number(_) => "nodes: ",
+        NodeRefusal::WithNoFile | NodeRefusal::WithNotNodes | NodeRefusal::WithNumber(_) => {
+            "with: "
+        }
+    }
 }

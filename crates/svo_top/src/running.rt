@@ -14,8 +14,9 @@ use crate::explaining::explain;
 use crate::file_commands::{carry_out_question, keep_from, usual_keep};
 use crate::file_question::Question;
 use crate::making::make;
+use crate::merging::merge_files;
 use crate::outcome::{Device, Status, UsageKind};
-use crate::picturing::{axis_from, show_view};
+use crate::picturing::{show_slice, show_view};
 use crate::reporting::{Ending, report};
 use crate::summing::sum;
 use dev_traits::{ByteSink, ByteSource, NodeStore, Scratch};
@@ -149,7 +150,9 @@ fn carry_out_command<I: ByteSource, O: ByteSink, S: Scratch, N: NodeStore>(
         Command::Why(words) => explain(words, out),
         Command::Make(words) => make(words, out),
         Command::Sum(words) => sum(alloc, words, out, scratch),
+        Command::Slice(words) => show_slice(alloc, words, input, out, nodes),
         Command::View(words) => show_view(alloc, words, input, out, nodes),
+        Command::Merge(words) => merge_files(words, out, nodes),
         Command::Check(words) => {
             let question = Question::Check;
             carry_out_question(usual, &words.nodes, &question, input, out, nodes)
@@ -160,6 +163,10 @@ fn carry_out_command<I: ByteSource, O: ByteSink, S: Scratch, N: NodeStore>(
         }
         Command::Lift(words) => {
             let question = Question::Lift;
+            carry_out_question(usual, &words.nodes, &question, input, out, nodes)
+        }
+        Command::Coarse(words) => {
+            let question = Question::Coarse(words.levels);
             carry_out_question(usual, &words.nodes, &question, input, out, nodes)
         }
         Command::Cells(words) => {
@@ -175,11 +182,6 @@ fn carry_out_command<I: ByteSource, O: ByteSink, S: Scratch, N: NodeStore>(
         Command::Near(words) => {
             let keep = keep_from(alloc, words.keep);
             let question = Question::Lines(QueryKind::Points);
-            carry_out_question(keep, &words.nodes, &question, input, out, nodes)
-        }
-        Command::Slice(words) => {
-            let keep = keep_from(alloc, words.keep);
-            let question = Question::Slice(axis_from(words.axis), words.at);
             carry_out_question(keep, &words.nodes, &question, input, out, nodes)
         }
     }

@@ -8,6 +8,7 @@ use Rattle.svo_words.specs.Choices.{are_names}
 use Rattle.svo_words.specs.Steps.{settings_in}
 use Rattle.svo_words.specs.Build.{build_choices}
 use Rattle.svo_words.specs.Nodes.{nodes_choices, has_choices, kept_choices}
+use Rattle.svo_words.specs.Combining.{merge_choices, coarse_choices}
 use Rattle.svo_words.specs.Made.{make_choices, sum_choices}
 use Rattle.svo_words.specs.Pictures.{slice_choices, view_choices}
 use Rattle.svo_words.specs.Why.{why_choices}
@@ -29,7 +30,7 @@ abbrev has_names : CommandForm → Bool
 has_names form = are_names form.choices
 
 all_have_names : list_all has_names commands ≡ true
-unfolding commands build_choices nodes_choices kept_choices has_choices why_choices slice_choices view_choices make_choices sum_choices
+unfolding commands build_choices nodes_choices kept_choices has_choices why_choices slice_choices view_choices make_choices sum_choices merge_choices coarse_choices
 all_have_names = refl
 
 pub names_ok : (form : CommandForm) → IsAmong commands form → are_names form.choices ≡ true

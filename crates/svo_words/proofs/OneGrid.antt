@@ -2,20 +2,21 @@
 use Rattle.std.proofs.Common.{◌≡◌, ℕ, Bool, true, false, List, [], ◌∷◌, Option, None, Some, option_map, Ok, inl, inr, refl, sym, subst}
 use Rattle.std.specs.Prelude.{ℤ, not, is_some, pos, codes, ⊤}
 use Rattle.svo_words.specs.Build.{build_numbers, build_from, unless, with_scratch, HasOneGrid}
-use Rattle.svo_words.specs.Forms.{CommandForm, commands, cast_form, check_form, cells_form, has_form, why_form, slice_form, view_form, lift_form, make_form, sum_form, near_form}
+use Rattle.svo_words.specs.Forms.{CommandForm, commands, cast_form, check_form, cells_form, has_form, why_form, slice_form, view_form, lift_form, make_form, sum_form, near_form, merge_form, coarse_form}
 use Rattle.svo_words.specs.Lookups.{Lookup}
 use Rattle.svo_words.specs.Meaning.{IsAmong, Means}
 use Rattle.text_words.specs.Numbers.{◌>>=◌}
 use Rattle.svo_words.specs.Settings.{value_of}
 use Rattle.svo_words.specs.Values.{is_set, number_in, number_or, numbers_in, text_or}
 use Rattle.svo_words.specs.Nodes.{check_from, has_from, cells_from, lift_from, cast_from, near_from}
+use Rattle.svo_words.specs.Combining.{merge_from, coarse_from}
 use Rattle.svo_words.specs.Made.{make_from, sum_from}
 use Rattle.svo_words.specs.Pictures.{slice_from, view_from}
 use Rattle.svo_words.specs.Why.{why_from}
 use Rattle.svo_words.specs.declared.build.BuildNumbers.{BuildNumbers}
 use Rattle.svo_words.specs.declared.build.BuildWords.{BuildWords}
 use Rattle.svo_words.specs.declared.commands.Command.{Command}
-use Rattle.svo_words.specs.declared.commands.Command.TheVariants.{Build, Cast, Check, Cells, Has, Why, Slice, View, Lift, Make, Sum, Near}
+use Rattle.svo_words.specs.declared.commands.Command.TheVariants.{Build, Cast, Check, Cells, Has, Why, Slice, View, Lift, Make, Sum, Near, Merge, Coarse}
 
 -- a value that is wanted without a flag is there exactly where the flag is not
 there : {A : Type 0} (flag : Bool) (wanted : Option A) (value : Option A) → unless flag wanted ≡ Some value → is_some value ≡ not flag
@@ -102,10 +103,10 @@ no_build : {A : Type 0} (variant : A → Command) (reads : Lookup → Option A) 
 no_build variant reads other values job e = no_build_of variant (reads values) job other e
 
 abbrev other_forms : List CommandForm
-other_forms = cast_form ∷ check_form ∷ cells_form ∷ has_form ∷ why_form ∷ slice_form ∷ view_form ∷ lift_form ∷ make_form ∷ sum_form ∷ near_form ∷ []
+other_forms = cast_form ∷ check_form ∷ cells_form ∷ has_form ∷ why_form ∷ slice_form ∷ view_form ∷ lift_form ∷ make_form ∷ sum_form ∷ near_form ∷ merge_form ∷ coarse_form ∷ []
 
 all_others : AreOthers other_forms
-all_others = (no_build Cast cast_from (λ a none. none), (no_build Check check_from (λ a none. none), (no_build Cells cells_from (λ a none. none), (no_build Has has_from (λ a none. none), (no_build Why why_from (λ a none. none), (no_build Slice slice_from (λ a none. none), (no_build View view_from (λ a none. none), (no_build Lift lift_from (λ a none. none), (no_build Make make_from (λ a none. none), (no_build Sum sum_from (λ a none. none), (no_build Near near_from (λ a none. none), tt)))))))))))
+all_others = (no_build Cast cast_from (λ a none. none), (no_build Check check_from (λ a none. none), (no_build Cells cells_from (λ a none. none), (no_build Has has_from (λ a none. none), (no_build Why why_from (λ a none. none), (no_build Slice slice_from (λ a none. none), (no_build View view_from (λ a none. none), (no_build Lift lift_from (λ a none. none), (no_build Make make_from (λ a none. none), (no_build Sum sum_from (λ a none. none), (no_build Near near_from (λ a none. none), (no_build Merge merge_from (λ a none. none), (no_build Coarse coarse_from (λ a none. none), tt)))))))))))))
 
 by_command : (values : Lookup) (job : BuildWords) (form : CommandForm) → IsAmong commands form → form.reads values ≡ Some (Build job) → HasOneGrid job
 unfolding commands

@@ -8,11 +8,12 @@ use Rattle.svo_words.specs.Steps.{settings_in}
 use Rattle.svo_words.specs.Lookups.{Lookup}
 use Rattle.svo_words.specs.Build.{build_choices, build_from}
 use Rattle.svo_words.specs.Nodes.{nodes_choices, has_choices, kept_choices, check_from, has_from, cells_from, lift_from, cast_from, near_from}
+use Rattle.svo_words.specs.Combining.{merge_choices, merge_from, coarse_choices, coarse_from}
 use Rattle.svo_words.specs.Made.{make_choices, make_from, sum_choices, sum_from}
 use Rattle.svo_words.specs.Pictures.{slice_choices, slice_from, view_choices, view_from}
 use Rattle.svo_words.specs.Why.{why_choices, why_from}
 use Rattle.svo_words.specs.declared.commands.Command.{Command}
-use Rattle.svo_words.specs.declared.commands.Command.TheVariants.{Build, Cast, Check, Cells, Has, Why, Slice, View, Lift, Make, Sum, Near}
+use Rattle.svo_words.specs.declared.commands.Command.TheVariants.{Build, Cast, Check, Cells, Has, Why, Slice, View, Lift, Make, Sum, Near, Merge, Coarse}
 use Rattle.svo_words.specs.declared.commands.WordFault.{WordFault}
 use Rattle.svo_words.specs.declared.commands.WordFault.TheVariants.{Command as NoCommand, Options, Value}
 
@@ -58,8 +59,14 @@ sum_form = record { name = codes "sum"; choices = sum_choices; reads = λ values
 abbrev pub near_form : CommandForm
 near_form = record { name = codes "near"; choices = kept_choices; reads = λ values. option_map Near (near_from values) }
 
+abbrev pub merge_form : CommandForm
+merge_form = record { name = codes "merge"; choices = merge_choices; reads = λ values. option_map Merge (merge_from values) }
+
+abbrev pub coarse_form : CommandForm
+coarse_form = record { name = codes "coarse"; choices = coarse_choices; reads = λ values. option_map Coarse (coarse_from values) }
+
 unfoldable pub commands : List CommandForm
-commands = build_form ∷ cast_form ∷ check_form ∷ cells_form ∷ has_form ∷ why_form ∷ slice_form ∷ view_form ∷ lift_form ∷ make_form ∷ sum_form ∷ near_form ∷ []
+commands = build_form ∷ cast_form ∷ check_form ∷ cells_form ∷ has_form ∷ why_form ∷ slice_form ∷ view_form ∷ lift_form ∷ make_form ∷ sum_form ∷ near_form ∷ merge_form ∷ coarse_form ∷ []
 
 -- the command that the words are, or what is wrong with them
 abbrev pub read_as : CommandForm → Option (List Setting) → Result Command WordFault

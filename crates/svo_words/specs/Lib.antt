@@ -1,5 +1,6 @@
 pub mod Build
 pub mod Choices
+pub mod Combining
 pub mod Counting
 pub mod Forms
 pub mod Grammar

@@ -1,12 +1,13 @@
 -- The values of options as numbers, texts and words of a list.
 use Rattle.std.specs.Prelude.{ℕ, Bool, if◌then◌else◌, List, ℤ, Option, None, Some, is_some}
 use Rattle.svo_words.specs.Grammar.{is_separate}
-use Rattle.svo_words.specs.Kinds.{axis_of, kind_of}
+use Rattle.svo_words.specs.Kinds.{axis_of, kind_of, merge_of}
 use Rattle.svo_words.specs.Lookups.{Lookup}
 use Rattle.text_words.specs.Numbers.{number_of, ◌>>=◌}
 use Rattle.svo_words.specs.Numbers.{numbers_of}
 use Rattle.svo_words.specs.declared.kinds.AxisWord.{AxisWord}
 use Rattle.svo_words.specs.declared.kinds.KindWord.{KindWord}
+use Rattle.svo_words.specs.declared.kinds.MergeWord.{MergeWord}
 
 abbrev pub is_set : Lookup → List ℕ → Bool
 is_set values name = is_some (values name)
@@ -46,3 +47,6 @@ axis_in values name = values name >>= axis_of
 
 unfoldable pub kind_in : Lookup → List ℕ → Option KindWord
 kind_in values name = values name >>= kind_of
+
+unfoldable pub merge_in : Lookup → List ℕ → Option MergeWord
+merge_in values name = values name >>= merge_of

@@ -4,7 +4,8 @@ ghost use Rattle.std.specs.Prelude.{map};
 ghost use Rattle.std.specs.String.{string_bytes};
 ghost use Rattle.svo_words.specs.Build.{build_choices};
 ghost use Rattle.svo_words.specs.Steps.{settings_in};
-ghost use Rattle.svo_words.specs.Forms.{form_of, build_form, cast_form, check_form, cells_form, has_form, why_form, slice_form, view_form, lift_form, make_form, sum_form, near_form, read_as};
+ghost use Rattle.svo_words.specs.Forms.{form_of, build_form, cast_form, check_form, cells_form, has_form, why_form, slice_form, view_form, lift_form, make_form, sum_form, near_form, merge_form, coarse_form, read_as};
+ghost use Rattle.svo_words.specs.Combining.{merge_choices, coarse_choices};
 ghost use Rattle.svo_words.specs.Made.{make_choices, sum_choices};
 ghost use Rattle.svo_words.specs.Nodes.{nodes_choices, has_choices, kept_choices};
 ghost use Rattle.svo_words.specs.Pictures.{slice_choices, view_choices};
@@ -13,6 +14,9 @@ ghost use Rattle.svo_words.specs.Why.{why_choices};
 
 use crate::build::{BuildWords, build_choices, build_from};
 use crate::choices::Choice;
+use crate::combining::{
+    CoarseWords, MergeWords, coarse_choices, coarse_from, merge_choices, merge_from,
+};
 use crate::form_test::is_in_form;
 use crate::made::{MakeWords, SumWords, make_choices, make_from, sum_choices, sum_from};
 use crate::matching::matches_of;
@@ -42,6 +46,8 @@ pub enum Command {
     Make(MakeWords),
     Sum(SumWords),
     Near(NearWords),
+    Merge(MergeWords),
+    Coarse(CoarseWords),
 }
 
 /// Why words are no command.
@@ -82,6 +88,8 @@ pub fn read_words(alloc: Global, words: &Words) -> Result<Command, WordFault>
         "make" => read_make(alloc, words.tail(1)),
         "sum" => read_sum(alloc, words.tail(1)),
         "near" => read_near(alloc, words.tail(1)),
+        "merge" => read_merge(alloc, words.tail(1)),
+        "coarse" => read_coarse(alloc, words.tail(1)),
         _ => Err(WordFault::Command),
     }
 }
@@ -227,6 +235,30 @@ fn read_near(alloc: Global, words: &[String]) -> Result<Command, WordFault>
     match near_from(alloc, &values) {
         Err(fault) => Err(fault),
         Ok(near) => Ok(Command::Near(near)),
+    }
+}
+
+/// The command `merge` of the words after its name.
+fn read_merge(alloc: Global, words: &[String]) -> Result<Command, WordFault>
+    ensures { IsRead (read_as merge_form (settings_in merge_choices (map string_bytes words.now))) result }
+{
+    let choices = merge_choices();
+    let values = read_values(alloc, &choices, words)?;
+    match merge_from(alloc, &values) {
+        Err(fault) => Err(fault),
+        Ok(merge) => Ok(Command::Merge(merge)),
+    }
+}
+
+/// The command `coarse` of the words after its name.
+fn read_coarse(alloc: Global, words: &[String]) -> Result<Command, WordFault>
+    ensures { IsRead (read_as coarse_form (settings_in coarse_choices (map string_bytes words.now))) result }
+{
+    let choices = coarse_choices();
+    let values = read_values(alloc, &choices, words)?;
+    match coarse_from(alloc, &values) {
+        Err(fault) => Err(fault),
+        Ok(coarse) => Ok(Command::Coarse(coarse)),
     }
 }
 

@@ -1,9 +1,9 @@
-//! Values that are texts, axes or kinds of pictures.
+//! Values that are texts, axes, or kinds of pictures or of merges.
 
 ghost use Rattle.std.specs.Prelude.{◌≡◌, ℕ, List, IfOk, option_map};
 ghost use Rattle.std.specs.String.{string_bytes};
 ghost use Rattle.svo_words.specs.Values.{text_of};
-ghost use Rattle.svo_words.specs.Kinds.{axis_of, kind_of};
+ghost use Rattle.svo_words.specs.Kinds.{axis_of, kind_of, merge_of};
 
 use crate::form_test::is_separate;
 use std::alloc::{AllocError, Global};
@@ -53,6 +53,15 @@ pub enum KindWord {
     Pinhole,
 }
 
+/// How the cells of two files are put together: those of either, those of both, or those of the first
+/// alone.
+#[derive(Clone, Copy, Debug, PartialEq, Eq)]
+pub enum MergeWord {
+    Union,
+    Both,
+    Minus,
+}
+
 /// A value that is a text: not empty, and without a `-` before it.
 pub(crate) fn text_of(value: &str) -> Option<&str>
     ensures { option_map (λ text. text.now) result ≡ text_of value.now }
@@ -85,6 +94,19 @@ pub(crate) fn kind_of(value: &str) -> Option<KindWord>
     match value {
         "parallel" => Some(KindWord::Parallel),
         "pinhole" => Some(KindWord::Pinhole),
+        _ => None,
+    }
+}
+
+/// The kind of merge `union`, `both` or `minus`.
+#[tactic(auto, unfolding(crate::specs::Kinds::merge_of))]
+pub(crate) fn merge_of(value: &str) -> Option<MergeWord>
+    ensures { result ≡ merge_of value.now }
+{
+    match value {
+        "union" => Some(MergeWord::Union),
+        "both" => Some(MergeWord::Both),
+        "minus" => Some(MergeWord::Minus),
         _ => None,
     }
 }

@@ -3,6 +3,7 @@
 
 mod build;
 mod choices;
+mod combining;
 mod commands;
 mod form_test;
 mod kinds;
@@ -16,8 +17,9 @@ mod values;
 mod why;
 
 pub use build::BuildWords;
+pub use combining::{CoarseWords, MergeWords};
 pub use commands::{Command, WordFault, read_words};
-pub use kinds::{AxisWord, KindWord, Text};
+pub use kinds::{AxisWord, KindWord, MergeWord, Text};
 pub use laws::{one_grid, one_meaning, one_spelling};
 pub use made::{MakeWords, SumWords};
 pub use nodes::{CastWords, CellsWords, CheckWords, HasWords, LiftWords, NearWords};

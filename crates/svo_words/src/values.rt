@@ -3,9 +3,9 @@
 ghost use Rattle.std.specs.Prelude.{◌≡◌, ◌<◌, option_map};
 ghost use Rattle.clap.specs.Matches.{found_of, first_value};
 ghost use Rattle.svo_words.specs.Seen.{values_of};
-ghost use Rattle.svo_words.specs.Values.{is_set, number_in, number_or, numbers_in, text_in, text_or, axis_in, kind_in};
+ghost use Rattle.svo_words.specs.Values.{is_set, number_in, number_or, numbers_in, text_in, text_or, axis_in, kind_in, merge_in};
 
-use crate::kinds::{AxisWord, KindWord, axis_of, kind_of, text_of};
+use crate::kinds::{AxisWord, KindWord, MergeWord, axis_of, kind_of, merge_of, text_of};
 use crate::numbers::numbers;
 use clap::ArgMatches;
 use text_words::number;
@@ -99,5 +99,13 @@ impl<'a> Values<'a> {
         ensures { result ≡ kind_in (values_of self.now) name.now }
     {
         kind_of(self.value(name)?)
+    }
+
+    /// The kind of merge that an option names.
+    #[tactic(auto, unfolding(crate::specs::Values::merge_in))]
+    pub(crate) fn merge_kind(&self, name: &str) -> Option<MergeWord>
+        ensures { result ≡ merge_in (values_of self.now) name.now }
+    {
+        merge_of(self.value(name)?)
     }
 }

@@ -16,7 +16,8 @@ use Rattle.svo_top.specs.declared.file_question.Question.TheVariants as question
 use Rattle.svo_top.specs.declared.outcome.Status.{Status}
 use Rattle.slice_view.specs.Slices.{slice_picture}
 use Rattle.svo_top.specs.Picturing.{Views}
-use Rattle.svo_top.proofs.OpenFileAnswers.{layer_below, views_of, sure_of_view, answers_of, sure_of, kept_told, answers_input, sure_lines, lines_end, no_memory, unbarred_lines}
+use Rattle.node_merge.specs.Combined.{coarse, coarse_grid}
+use Rattle.svo_top.proofs.OpenFileAnswers.{layer_below, levels_within, views_of, sure_of_view, answers_of, sure_of, kept_told, answers_input, sure_lines, lines_end, no_memory, unbarred_lines}
 use Rattle.svo_top.proofs.open_file.answer.Goals as goal
 
 pub returns-in-Check-clause-works : goal.returns-in-Check-clause-works
@@ -165,3 +166,30 @@ place-requires g c =
     let below : unsigned_abs c.in-Slice.at < 2 ^ (g.R.Records.file c.args.nodes.now).grid.depth =
     layer_below c.in-Slice.axis c.in-Slice.at depth (subst (λ (q : Question). bar q (g.R.Records.file c.args.nodes.now).grid.depth ≡ None) c.in-Slice.is c.requires.unbarred) in
     omega (arith, most, below)
+
+-- a number of levels is below the depth
+pub put_coarse-requires : goal.put_coarse-requires
+put_coarse-requires g c =
+    let depth = (g.R.Records.file c.args.nodes.now).grid.depth in
+    let within = levels_within c.in-Coarse.levels depth (subst (λ (q : Question). bar q (g.R.Records.file c.args.nodes.now).grid.depth ≡ None) c.in-Coarse.is c.requires.unbarred) in
+    record { levels = subst (λ (levels : ℕ). (1 ≤ levels) × (levels < depth)) (sym c.place-in-Coarse.ensures) within }
+
+pub returns-in-Coarse-clause-works : goal.returns-in-Coarse-clause-works
+returns-in-Coarse-clause-works g c = λ cells keeps.
+    let file = g.R.Records.file c.args.nodes.now in
+    let input = change_of g.I.ByteSource.rest g.I.ByteSource.faults c.args.input.now c.args.input.now in
+    let out = change_of g.O.ByteSink.written g.O.ByteSink.faults c.args.out.now c.put_coarse.new.out in
+    let before = g.R.Records.faults c.args.nodes.now in
+    let after = g.R.Records.faults c.put_coarse.new.nodes in
+    let puts = kept_told file (λ cells. Puts out.before out.after (image_of 2 (coarse_grid c.place-in-Coarse.result (g.R.Records.file c.args.nodes.now).grid) (coarse c.place-in-Coarse.result (g.R.Records.file c.args.nodes.now).grid.depth cells)) c.put_coarse.result) c.put_coarse.ensures.told cells keeps in
+    subst (λ (q : Question). Works q file.format file.grid cells input out before after c.status_of_answer-in-Coarse.result) (sym c.in-Coarse.is)
+    (subst (λ (s : Status). Answers (image_of 2 (coarse_grid (unsigned_abs c.in-Coarse.levels) (g.R.Records.file c.args.nodes.now).grid) (coarse (unsigned_abs c.in-Coarse.levels) (g.R.Records.file c.args.nodes.now).grid.depth cells)) out before after s) (sym c.status_of_answer-in-Coarse.ensures)
+    (subst (λ (levels : ℕ). Answers (image_of 2 (coarse_grid levels (g.R.Records.file c.args.nodes.now).grid) (coarse levels (g.R.Records.file c.args.nodes.now).grid.depth cells)) out before after (status_of_answer c.put_coarse.result)) c.place-in-Coarse.ensures
+    (answers_of _ out before after c.put_coarse.result puts c.put_coarse.ensures.cause)))
+
+pub returns-in-Coarse-clause-sure : goal.returns-in-Coarse-clause-sure
+returns-in-Coarse-clause-sure g c = λ cells keeps refusal e.
+    let file = g.R.Records.file c.args.nodes.now in
+    let out = change_of g.O.ByteSink.written g.O.ByteSink.faults c.args.out.now c.put_coarse.new.out in
+    let puts = kept_told file (λ cells. Puts out.before out.after (image_of 2 (coarse_grid c.place-in-Coarse.result (g.R.Records.file c.args.nodes.now).grid) (coarse c.place-in-Coarse.result (g.R.Records.file c.args.nodes.now).grid.depth cells)) c.put_coarse.result) c.put_coarse.ensures.told cells keeps in
+    sure_of _ out c.put_coarse.result puts refusal (sym c.status_of_answer-in-Coarse.ensures ∙ e)

@@ -1,6 +1,6 @@
 use Rattle.std.proofs.Common.{◌<◌, length, arith, inl, inr, refl, sym, subst, ◌∙◌, Result, Err}
 use Rattle.std.proofs.lemmas.Bool.Decides.{nat_tests}
-use Rattle.svo_words.specs.Forms.{commands, build_form, cast_form, check_form, cells_form, has_form, why_form, slice_form, view_form, lift_form, make_form, sum_form, near_form}
+use Rattle.svo_words.specs.Forms.{commands, build_form, cast_form, check_form, cells_form, has_form, why_form, slice_form, view_form, lift_form, make_form, sum_form, near_form, merge_form, coarse_form}
 use Rattle.svo_words.specs.Reading.{IsRead}
 use Rattle.svo_words.specs.declared.commands.Command.{Command}
 use Rattle.svo_words.specs.declared.commands.WordFault.{WordFault}
@@ -80,6 +80,18 @@ returns-in-near c =
     let some : 0 < length c.args.words.now = grind (arith, nat_tests) in
     arm near_form c.args.words.now _ c.read_near.result (inr (inr (inr (inr (inr (inr (inr (inr (inr (inr (inr (inl refl)))))))))))) some (sym c.get.ensures ∙ c.in-near.is) c.tail-in-near.ensures c.read_near.ensures
 
+pub returns-in-merge : goal.returns-in-merge
+unfolding commands
+returns-in-merge c =
+    let some : 0 < length c.args.words.now = grind (arith, nat_tests) in
+    arm merge_form c.args.words.now _ c.read_merge.result (inr (inr (inr (inr (inr (inr (inr (inr (inr (inr (inr (inr (inl refl))))))))))))) some (sym c.get.ensures ∙ c.in-merge.is) c.tail-in-merge.ensures c.read_merge.ensures
+
+pub returns-in-coarse : goal.returns-in-coarse
+unfolding commands
+returns-in-coarse c =
+    let some : 0 < length c.args.words.now = grind (arith, nat_tests) in
+    arm coarse_form c.args.words.now _ c.read_coarse.result (inr (inr (inr (inr (inr (inr (inr (inr (inr (inr (inr (inr (inr (inl refl)))))))))))))) some (sym c.get.ensures ∙ c.in-coarse.is) c.tail-in-coarse.ensures c.read_coarse.ensures
+
 pub returns-in_default : goal.returns-in_default
 unfolding commands
 returns-in_default c =
@@ -104,7 +116,13 @@ returns-in_default c =
                       λ same. c.in_default.not-lift (c.get.ensures ∙ same),
                       (
                         λ same. c.in_default.not-make (c.get.ensures ∙ same),
-                        (λ same. c.in_default.not-sum (c.get.ensures ∙ same), (λ same. c.in_default.not-near (c.get.ensures ∙ same), tt)),
+                        (
+                          λ same. c.in_default.not-sum (c.get.ensures ∙ same),
+                          (
+                            λ same. c.in_default.not-near (c.get.ensures ∙ same),
+                            (λ same. c.in_default.not-merge (c.get.ensures ∙ same), (λ same. c.in_default.not-coarse (c.get.ensures ∙ same), tt)),
+                          ),
+                        ),
                       ),
                     ),
                   ),
