@@ -1,8 +1,10 @@
 -- From what the build of a job answers to what the command's run means.
-use Rattle.std.proofs.Common.{◌⊎◌, ◌≡◌, ◌≢◌, ℕ, ◌<◌, List, [], ◌++◌, length, take, drop, refl, sym, ap, ◌∙◌, subst, inl, inr, Some, Result, Ok, Err, ⊎_elim, arith}
+use Rattle.std.proofs.Common.{◌⊎◌, ◌≡◌, ◌≢◌, ℕ, ◌<◌, ◌≤◌, List, [], ◌∷◌, ◌++◌, length, take, drop, refl, sym, ap, ◌∙◌, subst, inl, inr, Some, Result, Ok, Err, ⊎_elim, arith}
+use Rattle.std.specs.Option.{option_map}
 use Rattle.std.specs.Result.{result_err}
 use Rattle.dev_traits.specs.Change.{Change, ChangeOf, ScratchChange, IsFaultless, IsFaulted, IsKept}
-use Rattle.ply_binary.specs.AsciiChanges.{IsReadAsAscii}
+use Rattle.ply_binary.specs.AsciiChanges.{bytes_in, EndsWhole, IsReadAs, IsReadAsAscii}
+use Rattle.ply_binary.specs.HeaderTexts.{ascii}
 use Rattle.ply_reader.specs.WholeMeshes.{IsReadTo}
 use Rattle.ply_reader.specs.PlyMeaning.{PlyMesh, ply_meaning}
 use Rattle.ply_reader.specs.declared.fault.PlyFault.TheVariants.{Refused as IsRefused}
@@ -172,12 +174,33 @@ means_rejects words input out scratch job at (Err fault.WriteFault) runs text pl
 faultless : (input text : Change) → IsReadAsAscii input text → IsFaultless input → IsFaultless text
 faultless input text ascii none = rw (ascii.faults_before, ascii.faults_after) none
 
+none_of : (xs : List ℕ) → length xs ≤ 0 → xs ≡ []
+none_of [] none = refl
+none_of (x ∷ xs) none = absurd (omega (arith, none))
+
+-- what is left of an input whose text was given whole
+read_by : (bytes behind left : List ℕ) → IsReadAs bytes behind left → left ≡ [] → (ascii bytes ≡ bytes) ⊎ EndsWhole bytes → behind ≡ []
+read_by bytes behind left reads none (inl same) = none_of behind (omega (arith, reads.plain same, ap length none))
+read_by bytes behind left reads none (inr whole) = reads.ended none whole
+
+means_read : (input text out : Change) (scratch : ScratchChange) (job : Job) (at : List ℕ) (r : Result Built BuildFault) → BuildsJob job at text out scratch r → IsReadAsAscii input text
+    → status_of (ending_of r) ≡ Done → (bytes : List ℕ) → input.before ≡ Some bytes → (ascii bytes ≡ bytes) ⊎ EndsWhole bytes → input.after ≡ Some []
+means_read input text out scratch job at (Ok built) runs reads is bytes told which =
+    let after = reads.told bytes told in
+    let left : text.after ≡ Some [] = runs.builds.nothing_left (ascii bytes) (reads.before ∙ ap (option_map ascii) told) in
+    after.0 ∙ ap Some (read_by bytes (bytes_in input.after) (bytes_in text.after) after.2 (ap bytes_in left) which)
+means_read input text out scratch job at (Err (fault.Input kind place)) runs reads is bytes told which = absurd cc
+means_read input text out scratch job at (Err fault.ReadFault) runs reads is bytes told which = absurd cc
+means_read input text out scratch job at (Err fault.ScratchFault) runs reads is bytes told which = absurd cc
+means_read input text out scratch job at (Err fault.WriteFault) runs reads is bytes told which = absurd cc
+
 pub means_build : (words : BuildWords) (input text out : Change) (scratch : ScratchChange) (job : Job) (r : Result Built BuildFault) → job_from words ≡ Ok job → BuildsJob job words.scratch text out scratch r
     → IsReadAsAscii input text → BuildMeans words input text out scratch (status_of (ending_of r))
 means_build words input text out scratch job r named runs ascii = record {
   untouched = λ fault broken. absurd (no_range words job fault named broken);
   memory = λ is. absurd (not_memory r is);
   asked = inr (record { job = job; named = named; asked = runs.asked });
+  read = means_read input text out scratch job words.scratch r runs ascii;
   kept = means_kept text out scratch job words.scratch r runs;
   cut_off = means_cut_off words text out scratch job words.scratch r named runs;
   cut_short = means_cut_short words text out scratch job words.scratch r named runs;

@@ -1,9 +1,10 @@
 -- What a run of `build` does.
-use Rattle.std.specs.Prelude.{◌≡◌, ◌≢◌, ◌⊎◌, ℕ, ◌+◌, ◌^◌, ◌<◌, List, length, take, Some, Ok, Err}
+use Rattle.std.specs.Prelude.{◌≡◌, ◌≢◌, ◌⊎◌, ℕ, ◌+◌, ◌^◌, ◌<◌, List, [], length, take, Some, Ok, Err}
 use Rattle.octree_specs.specs.OctreeFile.{image_of, IsNodeFile}
 use Rattle.dev_traits.specs.Change.{Change, ScratchChange, IsFaultless, IsKept, IsScratchKept}
 use Rattle.dev_traits.specs.Streams.{asked_of}
-use Rattle.ply_binary.specs.AsciiChanges.{IsReadAsAscii}
+use Rattle.ply_binary.specs.AsciiChanges.{EndsWhole, IsReadAsAscii}
+use Rattle.ply_binary.specs.HeaderTexts.{ascii}
 use Rattle.ply_reader.specs.PlyMeaning.{PlyMesh, ply_meaning}
 use Rattle.ply_reader.specs.WholeMeshes.{IsReadTo}
 use Rattle.ply_reader.specs.declared.fault.PlyFault.TheVariants.{Refused as IsRefused}
@@ -71,11 +72,13 @@ pub record IsAskedFor (words : BuildWords) (scratch : ScratchChange) : Type 0 wh
 abbrev pub IsUntouched : Change → Change → ScratchChange → Type 0
 IsUntouched input out scratch = IsKept input × IsKept out × IsScratchKept scratch
 
--- what each answer of a build means and leaves, and which one a faultless run gives; `text` is the input's text as ASCII
+-- what each answer of a build means and leaves, and which one a faultless run gives; `text` is the input's text as ASCII. Where a build is done of a text
+-- in ASCII, or of a binary one that ends whole, the input was read to its end
 pub record BuildMeans (words : BuildWords) (input text out : Change) (scratch : ScratchChange) (status : Status) : Type 0 where
   pub untouched : (fault : RangeFault) → range_of_build words ≡ Some fault → IsUntouched input out scratch
   pub memory : status ≡ Memory → IsUntouched input out scratch
   pub asked : (scratch.asked_after ≡ scratch.asked_before) ⊎ IsAskedFor words scratch
+  pub read : status ≡ Done → (bytes : List ℕ) → input.before ≡ Some bytes → (ascii bytes ≡ bytes) ⊎ EndsWhole bytes → input.after ≡ Some []
   pub kept : status ≢ Done → status ≢ Device Write → status ≢ Device Scratch → IsKept out
   pub cut_off : status ≡ Device Write → IsCutOff words text out scratch
   pub cut_short : status ≡ Device Scratch → (out.after ≡ out.before) ⊎ IsCutOff words text out scratch
