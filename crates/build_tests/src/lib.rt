@@ -15,8 +15,6 @@ mod node_file_tests;
 #[cfg(test)]
 mod room_plan_tests;
 #[cfg(test)]
-mod solid_parity_tests;
-#[cfg(test)]
 mod tri_cube_tests;
 #[cfg(test)]
 mod tri_partition_spill_tests;
