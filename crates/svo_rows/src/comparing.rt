@@ -1,9 +1,9 @@
 //! What a run left, compared with what must come.
 
-use crate::entries::{Calls, Device, Stream, Want};
+use crate::entries::{Calls, Device, Stream, Want, WantedErr, WantedOut};
 use crate::faults::RowFault;
 use crate::running::Outcome;
-use crate::spelling::{Known, int_bytes, malformed, spelled};
+use crate::spelling::{Known, int_bytes, spelled};
 use sha2::{Digest, Sha256};
 use std::alloc::{AllocError, Global};
 
@@ -48,7 +48,7 @@ fn in_status(
 }
 
 /// How far bytes must be those of a text.
-#[derive(Clone, Copy, PartialEq, Eq)]
+#[derive(Clone, Copy)]
 enum Extent {
     Whole,
     Front,
@@ -75,25 +75,24 @@ impl WantedLine {
 }
 
 /// The line that must come, with its end; nothing where the row names none.
-fn wanted_line(alloc: Global, want: &Want, number: usize) -> Result<WantedLine, RowFault> {
-    match (&want.err.line, &want.err.front, &want.err.begins) {
-        (None, None, None) => Ok(WantedLine {
+fn wanted_line(alloc: Global, want: &Want, number: usize) -> Result<WantedLine, AllocError> {
+    match &want.err {
+        WantedErr::Nothing => Ok(WantedLine {
             text: String::new(alloc),
             extent: Extent::Whole,
         }),
-        (Some(line), None, None) => Ok(WantedLine {
+        WantedErr::Line(line) => Ok(WantedLine {
             text: numbered(alloc, line.as_str(), number)?,
             extent: Extent::Whole,
         }),
-        (None, Some(line), None) => Ok(WantedLine {
+        WantedErr::Front(line) => Ok(WantedLine {
             text: numbered(alloc, line.as_str(), number)?,
             extent: Extent::Front,
         }),
-        (None, None, Some(front)) => Ok(WantedLine {
+        WantedErr::Begins(front) => Ok(WantedLine {
             text: String::from_str(alloc, front.as_str())?,
             extent: Extent::Beginning,
         }),
-        _ => Err(malformed(alloc, "two wants of err")),
     }
 }
 
@@ -113,17 +112,17 @@ fn in_out(
     came: &Outcome,
 ) -> Result<Option<String>, RowFault> {
     let out = came.out.bytes();
-    match (&want.out.whole, &want.out.front, &want.out.sha256) {
-        (None, None, None) => differs(alloc, out.is_empty(), b"", out),
-        (Some(bytes), None, None) => {
+    match &want.out {
+        WantedOut::Nothing => differs(alloc, out.is_empty(), b"", out),
+        WantedOut::Whole(bytes) => {
             let wanted = spelled(alloc, known, bytes)?;
             differs(alloc, out == wanted.as_slice(), wanted.as_slice(), out)
         }
-        (None, Some(bytes), None) => {
+        WantedOut::Front(bytes) => {
             let wanted = spelled(alloc, known, bytes)?;
             differs(alloc, wanted.starts_with(out), wanted.as_slice(), out)
         }
-        (None, None, Some(digest)) => {
+        WantedOut::Sha256(digest) => {
             let found = hex::encode(alloc, Sha256::digest(out))?;
             differs(
                 alloc,
@@ -132,7 +131,6 @@ fn in_out(
                 found.as_bytes(),
             )
         }
-        _ => Err(malformed(alloc, "two wants of out")),
     }
 }
 

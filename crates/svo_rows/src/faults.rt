@@ -1,6 +1,6 @@
 //! Why a row cannot be run.
 
-use std::alloc::{AllocError, AllocFailed};
+use std::alloc::{AllocError, AllocFailed, Global};
 
 /// Why a line of the table cannot be taken, or a row of it not be run.
 #[derive(Debug, Drop)]
@@ -20,5 +20,13 @@ impl From<AllocError> for RowFault {
 impl<T: Drop> From<AllocFailed<T>> for RowFault {
     fn from(_error: AllocFailed<T>) -> RowFault {
         RowFault::Memory
+    }
+}
+
+/// A fault with this cause.
+pub fn malformed(alloc: Global, cause: &str) -> RowFault {
+    match String::from_str(alloc, cause) {
+        Ok(cause) => RowFault::Malformed(cause),
+        Err(_) => RowFault::Memory,
     }
 }

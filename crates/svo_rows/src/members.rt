@@ -1,11 +1,63 @@
-//! An object of the table, read key by key: what reads a type with many fields at once costs far more to
-//! prove than what reads one value.
+//! Values of the table, read key by key: a derived reader, which keeps what it has of each field through a
+//! loop over the keys, costs far more to prove than a call for each.
 
-use crate::faults::RowFault;
+use crate::faults::{RowFault, malformed};
 use serde::DeserializeOwned;
 use serde_json::{Value, from_value};
 use std::alloc::Global;
 use std::collections::BTreeMap;
+
+/// What is read of a value of the table.
+pub trait FromValue: Sized + Drop {
+    /// Reads it. A value of another form is a fault that says so.
+    fn read(alloc: Global, value: Value) -> Result<Self, RowFault>;
+}
+
+/// Reads each value of a list.
+pub fn read_all<T: FromValue>(alloc: Global, values: Vec<Value>) -> Result<Vec<T>, RowFault> {
+    let mut all = Vec::new(alloc);
+    for value in values {
+        all.push(T::read(alloc, value)?)?;
+    }
+    Ok(all)
+}
+
+/// Reads a value that may not be there.
+pub fn read_if<T: FromValue>(alloc: Global, value: Option<Value>) -> Result<Option<T>, RowFault> {
+    match value {
+        None => Ok(None),
+        Some(value) => Ok(Some(T::read(alloc, value)?)),
+    }
+}
+
+/// A number, a text, a list of such, or any value, that stands behind a key.
+pub fn plain<T: DeserializeOwned + Drop>(
+    alloc: Global,
+    key: &str,
+    value: Value,
+) -> Result<T, RowFault> {
+    match from_value::<T>(alloc, value) {
+        Ok(read) => Ok(read),
+        Err(error) => Err(RowFault::Malformed(format!(in alloc; "{key}: {error}")?)),
+    }
+}
+
+/// The one key of an object, and its value.
+pub fn only_member(alloc: Global, value: Value) -> Result<(String, Value), RowFault> {
+    let mut members = Members::of(alloc, value)?;
+    match members.left.pop_first() {
+        None => Err(malformed(alloc, "one key is wanted")),
+        Some(member) => {
+            members.end(alloc)?;
+            Ok(member)
+        }
+    }
+}
+
+/// A fault that names a key which says nothing here.
+pub fn unknown_key<T>(alloc: Global, key: &str) -> Result<T, RowFault> {
+    Err(RowFault::Malformed(format!(in alloc; "unknown field `{key}`")?))
+}
 
 /// The members of an object that were not read yet.
 #[derive(Drop)]
@@ -18,8 +70,13 @@ impl Members {
     pub fn of(alloc: Global, value: Value) -> Result<Members, RowFault> {
         match value {
             Value::Object(left) => Ok(Members { left }),
-            _ => Err(RowFault::Malformed(String::from_str(alloc, "an object is wanted")?)),
+            _ => Err(malformed(alloc, "an object is wanted")),
         }
+    }
+
+    /// Whether the object has a key that was not read yet.
+    pub fn has(&self, key: &str) -> bool {
+        self.left.contains_key(key)
     }
 
     /// The value of a key, if the object has it.
@@ -30,10 +87,7 @@ impl Members {
     ) -> Result<Option<T>, RowFault> {
         match self.left.remove(key) {
             None => Ok(None),
-            Some(value) => match from_value::<T>(alloc, value) {
-                Ok(read) => Ok(Some(read)),
-                Err(error) => Err(RowFault::Malformed(format!(in alloc; "{key}: {error}")?)),
-            },
+            Some(value) => Ok(Some(plain(alloc, key, value)?)),
         }
     }
 
@@ -66,10 +120,7 @@ impl Members {
     pub fn end(&self, alloc: Global) -> Result<(), RowFault> {
         match self.left.keys().next() {
             None => Ok(()),
-            Some(key) => {
-                let key = key.as_str();
-                Err(RowFault::Malformed(format!(in alloc; "unknown field `{key}`")?))
-            }
+            Some(key) => unknown_key(alloc, key.as_str()),
         }
     }
 }

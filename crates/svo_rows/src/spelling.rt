@@ -1,7 +1,7 @@
 //! The bytes that a table spells.
 
 use crate::entries::{Bytes, Change, Changed, MeshLines, NodeWords, Placed, Spelling};
-use crate::faults::RowFault;
+use crate::faults::{RowFault, malformed};
 use crate::setups::Setup;
 use std::alloc::{AllocError, Global};
 use std::collections::BTreeMap;
@@ -23,14 +23,6 @@ pub struct Known<'a> {
 /// A fault that names what is not known.
 pub fn unknown(alloc: Global, what: &str, name: &str) -> RowFault {
     match format!(in alloc; "no {what} is named {name}") {
-        Ok(cause) => RowFault::Malformed(cause),
-        Err(_) => RowFault::Memory,
-    }
-}
-
-/// A fault with this cause.
-pub fn malformed(alloc: Global, cause: &str) -> RowFault {
-    match String::from_str(alloc, cause) {
         Ok(cause) => RowFault::Malformed(cause),
         Err(_) => RowFault::Memory,
     }

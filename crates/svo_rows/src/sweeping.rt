@@ -2,10 +2,10 @@
 
 use crate::comparing::first_difference;
 use crate::entries::{CallSweep, CutSweep, Refusal, Row, Sweep, Want};
-use crate::faults::RowFault;
+use crate::faults::{RowFault, malformed};
 use crate::running::{Outcome, run_once};
 use crate::setups::{Setup, StoreFile, words_of};
-use crate::spelling::{Known, Names, malformed, spelled, unknown};
+use crate::spelling::{Known, Names, spelled, unknown};
 use std::alloc::{AllocError, Global};
 
 /// The most complaints that are kept of a row.

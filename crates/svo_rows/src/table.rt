@@ -2,6 +2,7 @@
 
 use crate::entries::{Entry, NamedBytes, Row};
 use crate::faults::RowFault;
+use crate::members::FromValue;
 use crate::spelling::{Known, Names, spelled};
 use crate::sweeping::{Shelf, run_row};
 use serde_json::Value;
@@ -38,9 +39,8 @@ impl Table {
         if line.is_empty() || line.starts_with('#') {
             return Ok(());
         }
-        match serde_json::from_str::<Entry>(alloc, line) {
-            Ok(Entry::Bytes(bytes)) => self.keep(alloc, number, bytes),
-            Ok(Entry::Row(row)) => self.take_row(alloc, number, named_in(line), row),
+        match serde_json::from_str::<Value>(alloc, line) {
+            Ok(entry) => self.take_entry(alloc, number, named_in(line), entry),
             Err(error) => {
                 let what = named_in(line);
                 self.complain(format!(in alloc; "line {number}{what}: {error}")?)
@@ -78,16 +78,17 @@ impl Table {
         }
     }
 
-    /// Reads a row of its keys, and runs it.
-    fn take_row(
+    /// Keeps the bytes of an entry, or runs its row.
+    fn take_entry(
         &mut self,
         alloc: Global,
         number: u64,
         named: &str,
-        row: Value,
+        entry: Value,
     ) -> Result<(), AllocError> {
-        match Row::read(alloc, row) {
-            Ok(row) => self.run(alloc, &row),
+        match Entry::read(alloc, entry) {
+            Ok(Entry::Bytes(bytes)) => self.keep(alloc, number, bytes),
+            Ok(Entry::Row(row)) => self.run(alloc, &row),
             Err(RowFault::Memory) => Err(AllocError),
             Err(RowFault::Malformed(cause)) => {
                 self.complain(format!(in alloc; "line {number}{named}: {cause}")?)

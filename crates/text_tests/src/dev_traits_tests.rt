@@ -1,3 +1,8 @@
+//! What devices in memory answer. Calls of which each asks something are made by a function that gives
+//! what came, since each assertion is proved by itself.
+
+ghost use Rattle.std.specs.Prelude.{◌≡◌, ◌<◌, IsSome};
+
 use dev_traits::{
     ByteSink, ByteSource, Failed, MemScratch, MemSink, MemSource, MemStore, NodeStore, PartFail,
     Scratch,
@@ -10,9 +15,8 @@ fn a_source_gives_its_bytes_in_pieces(rt: HostRuntime) {
     for want in [2, 2, 1, 0] {
         assert_eq!(rt; source.read(&mut into), Ok(want), "a piece");
     }
-    assert_eq!(rt; into[0], b'e', "the last piece");
-    assert_eq!(rt; source.calls(), 4, "calls");
-    assert_eq!(rt; source.fault_count(), 0, "faults");
+    let came = (into[0], source.calls(), source.fault_count());
+    assert_eq!(rt; came, (b'e', 4, 0), "the last piece, calls, faults");
 }
 
 #[test]
@@ -28,10 +32,9 @@ fn a_source_refuses_the_calls_of_its_list(rt: HostRuntime) {
 #[test]
 fn a_sink_takes_what_fits(rt: HostRuntime) {
     let mut sink = MemSink::new(rt.alloc(), 3, &[]).expect(&rt, "memory");
-    assert_eq!(rt; sink.put(b"abcd"), Err(Failed), "a piece that does not fit");
+    let came = (sink.put(b"abcd"), sink.fault_count(), sink.put(b""));
+    assert_eq!(rt; came, (Err(Failed), 1, Ok(())), "too much, and nothing");
     assert!(rt; sink.bytes() == b"abc".as_slice(), "what fits is taken");
-    assert_eq!(rt; sink.fault_count(), 1, "faults");
-    assert_eq!(rt; sink.put(b""), Ok(()), "an empty piece fits");
 }
 
 /// Pieces, and whether their puts are accepted.
@@ -51,8 +54,8 @@ fn a_sink_refuses_the_calls_of_its_list(rt: HostRuntime) {
         sink.bytes() == b"abcefgh".as_slice(),
         "fronts of refused pieces"
     );
-    assert_eq!(rt; sink.calls(), 4, "calls");
-    assert_eq!(rt; sink.fault_count(), 2, "faults");
+    let counts = (sink.calls(), sink.fault_count());
+    assert_eq!(rt; counts, (4, 2), "calls and faults");
 }
 
 #[test]
@@ -60,9 +63,41 @@ fn a_scratch_starts_as_many_streams_as_it_has(rt: HostRuntime) {
     let mut scratch = MemScratch::new(rt.alloc(), 2, 4, &[]).expect(&rt, "memory");
     assert_eq!(rt; scratch.start("place", 2), Ok(()), "all of its streams");
     assert_eq!(rt; scratch.length(1), Ok(0), "an empty stream");
-    let mut small = MemScratch::new(rt.alloc(), 2, 4, &[]).expect(&rt, "memory");
-    assert_eq!(rt; small.start("place", 3), Err(Failed), "one too many");
-    assert_eq!(rt; small.fault_count(), 1, "faults");
+}
+
+#[test]
+fn a_scratch_starts_no_more_streams_than_it_has(rt: HostRuntime) {
+    let mut scratch = MemScratch::new(rt.alloc(), 2, 4, &[]).expect(&rt, "memory");
+    let came = (scratch.start("place", 3), scratch.fault_count());
+    assert_eq!(rt; came, (Err(Failed), 1), "one too many");
+}
+
+/// What five appends to stream 1 answer: of a piece that fits, refused at once, refused after a byte, up
+/// to the room, and beyond it.
+fn appended<S: Scratch>(scratch: &mut S) -> [Result<(), Failed>; 5]
+    requires { 1 < S.started scratch.old }
+    ensures { S.started scratch.new ≡ S.started scratch.old }
+{
+    let fits = scratch.append(1, b"ab");
+    let at_once = scratch.append(1, b"cd");
+    let after_a_byte = scratch.append(1, b"ef");
+    let to_the_room = scratch.append(1, b"gh");
+    let beyond = scratch.append(1, b"ij");
+    [fits, at_once, after_a_byte, to_the_room, beyond]
+}
+
+/// What two reads of the last bytes of stream 1 answer, where it has five, and what the second gave.
+fn last_bytes<S: Scratch>(scratch: &mut S) -> Option<([Result<(), Failed>; 2], [u8; 3])>
+    requires { 1 < S.started scratch.old }
+    ensures { S.started scratch.new ≡ S.started scratch.old }
+{
+    let mut into = [0; 3];
+    if scratch.length(1) != Ok(5) {
+        return None;
+    }
+    let first = scratch.read_at(1, 2, &mut into);
+    let second = scratch.read_at(1, 2, &mut into);
+    Some(([first, second], into))
 }
 
 #[test]
@@ -74,28 +109,36 @@ fn a_scratch_takes_what_fits_and_reads_it_back(rt: HostRuntime) {
     ];
     let mut scratch = MemScratch::new(rt.alloc(), 2, 5, &fails).expect(&rt, "memory");
     assert_eq!(rt; scratch.start("", 2), Ok(()), "start");
-    assert_eq!(rt; scratch.append(1, b"ab"), Ok(()), "a piece that fits");
-    assert_eq!(rt; scratch.append(1, b"cd"), Err(Failed), "refused at once");
-    assert_eq!(rt;
-        scratch.append(1, b"ef"),
-        Err(Failed),
-        "refused after a byte"
-    );
-    assert_eq!(rt; scratch.append(1, b"gh"), Ok(()), "up to the room");
-    assert_eq!(rt; scratch.append(1, b"ij"), Err(Failed), "beyond the room");
+    let appends = [Ok(()), Err(Failed), Err(Failed), Ok(()), Err(Failed)];
+    assert_eq!(rt; appended(&mut scratch), appends, "appends");
     assert!(rt; scratch.stream(1) == b"abegh".as_slice(), "what was taken");
-    assert_eq!(rt; scratch.length(1), Ok(5), "its length");
-    let mut into = [0; 3];
-    assert_eq!(rt;
-        scratch.read_at(1, 2, &mut into),
-        Err(Failed),
-        "a refused read"
-    );
-    assert_eq!(rt; scratch.read_at(1, 2, &mut into), Ok(()), "up to the end");
-    assert!(rt; into.as_slice() == b"egh".as_slice(), "the last bytes");
-    assert_eq!(rt; scratch.length(0), Ok(0), "the other stream");
-    assert_eq!(rt; scratch.calls(), 10, "calls");
-    assert_eq!(rt; scratch.fault_count(), 4, "faults");
+    let reads = Some(([Err(Failed), Ok(())], *b"egh"));
+    assert_eq!(rt; last_bytes(&mut scratch), reads, "its last bytes");
+    let others = (scratch.length(0), scratch.calls(), scratch.fault_count());
+    assert_eq!(rt; others, (Ok(0), 10, 4), "the other stream, calls, faults");
+}
+
+/// Whether there is a file a, the same in a refused call, and whether there is a file c.
+fn held<N: NodeStore>(store: &mut N) -> [Result<bool, Failed>; 3]
+    ensures { N.files store.new ≡ N.files store.old }
+{
+    let there = store.holds("a");
+    let refused = store.holds("a");
+    let not_there = store.holds("c");
+    [there, refused, not_there]
+}
+
+/// What two reads of the file's last bytes answer, where it has six, and what the second gave.
+fn end_of_file<N: NodeStore>(store: &mut N) -> Option<([Result<(), Failed>; 2], [u8; 4])>
+    requires { IsSome (N.current store.old) }
+{
+    let mut into = [0; 4];
+    if store.length() != Ok(6) {
+        return None;
+    }
+    let first = store.read_at(2, &mut into);
+    let second = store.read_at(2, &mut into);
+    Some(([first, second], into))
 }
 
 #[test]
@@ -104,15 +147,11 @@ fn a_store_gives_its_files_by_name(rt: HostRuntime) {
     let mut store = MemStore::new(rt.alloc(), &[2, 6]).expect(&rt, "memory");
     store.add("a", b"first").expect(&rt, "memory");
     store.add("b", b"second").expect(&rt, "memory");
-    assert_eq!(rt; store.holds("a"), Ok(true), "a name that is there");
-    assert_eq!(rt; store.holds("a"), Err(Failed), "a refused call");
-    assert_eq!(rt; store.holds("c"), Ok(false), "a name that is not there");
+    let names = [Ok(true), Err(Failed), Ok(false)];
+    assert_eq!(rt; held(&mut store), names, "names");
     assert_eq!(rt; store.select("b"), Ok(()), "the second file");
-    assert_eq!(rt; store.length(), Ok(6), "its length");
-    let mut into = [0; 4];
-    assert_eq!(rt; store.read_at(2, &mut into), Err(Failed), "a refused read");
-    assert_eq!(rt; store.read_at(2, &mut into), Ok(()), "up to the end");
-    assert!(rt; into.as_slice() == b"cond".as_slice(), "the last bytes");
-    assert_eq!(rt; store.calls(), 7, "calls");
-    assert_eq!(rt; store.fault_count(), 2, "faults");
+    let reads = Some(([Err(Failed), Ok(())], *b"cond"));
+    assert_eq!(rt; end_of_file(&mut store), reads, "its last bytes");
+    let counts = (store.calls(), store.fault_count());
+    assert_eq!(rt; counts, (7, 2), "calls and faults");
 }
